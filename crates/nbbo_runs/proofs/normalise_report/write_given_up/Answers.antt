@@ -1,7 +1,7 @@
 use Rattle.std.proofs.Common.{[], ◌∷◌, ◌++◌, codes}
 use Rattle.text_out.specs.Devices.{Writing}
 use Rattle.text_out.specs.Members.{writing_of}
-use Rattle.text_out.specs.laws.SaidTexts.{says_each}
+use Rattle.text_out.specs.laws.SaidTexts.{says_each, says_one}
 use Rattle.event_sinks.specs.VenueGapTexts.{missing_texts}
 use Rattle.nbbo_runs.specs.NormaliseReports.{venue_line_texts}
 use Rattle.nbbo_runs.proofs.normalise_report.write_given_up.Goals as goal
@@ -17,4 +17,5 @@ returns g c =
     says_each w (venue_line_texts gap.venue (codes " lacks ")) (missing ++ last)
     c.args.errors.now named end c.write_line.ensures
     (says_each w missing last named c.write_missing.new.errors end c.write_missing.ensures
-    c.write_stderr.ensures)
+    (says_one w (codes ", and is quoted no more\n") c.write_missing.new.errors end
+    c.write_stderr.ensures))

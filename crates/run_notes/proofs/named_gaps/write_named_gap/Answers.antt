@@ -2,7 +2,7 @@ use Rattle.std.proofs.Common.{[], ◌∷◌, ◌++◌, codes}
 use Rattle.text_out.specs.Devices.{Writing}
 use Rattle.event_sinks.specs.VenueGapTexts.{missing_texts}
 use Rattle.run_notes.specs.NamedGaps.{named_venue_texts}
-use Rattle.text_out.specs.laws.SaidTexts.{says_each}
+use Rattle.text_out.specs.laws.SaidTexts.{says_each, says_one}
 use Rattle.run_notes.proofs.named_gaps.write_named_gap.Goals as goal
 
 pub returns : goal.returns
@@ -18,4 +18,6 @@ returns g c =
     says_each w (named_venue_texts c.args.names.now gap.venue) (missing ++ codes "\n" ∷ [])
     c.args.errors.now named c.write_stderr.new.errors c.write_named_venue.ensures
     (says_each w missing (codes "\n" ∷ []) named c.write_missing.new.errors
-    c.write_stderr.new.errors c.write_missing.ensures c.write_stderr.ensures)
+    c.write_stderr.new.errors c.write_missing.ensures
+    (says_one w (codes "\n") c.write_missing.new.errors c.write_stderr.new.errors
+    c.write_stderr.ensures))
