@@ -3,7 +3,7 @@ pub mod GapPrints
 pub mod Keeping
 pub mod NoPacket
 pub mod PrintedTexts
-pub mod SaidLacks
+pub mod SaidGaps
 pub mod WatchedRuns
 pub mod SessionCounts
 pub mod SinkPrints
@@ -13,3 +13,4 @@ pub mod LateRuns
 pub mod WatchedSteps
 pub mod SnapshotPlaces
 pub mod Replaying
+pub mod RunOvers

@@ -1,6 +1,6 @@
 -- Sessions that are found to be the same are equal, and a row grows as what it is over.
-use Rattle.std.proofs.Common.{◌≡◌, ℕ, ◌+◌, List, [], ◌∷◌, ◌++◌, true, false, refl, ap, ◌∙◌, arith, rules}
-use Rattle.std.specs.Prelude.{Bool, ◌||◌, ◌==◌, IsTrue, ◌↔◌}
+use Rattle.std.proofs.Common.{◌≡◌, ◌≢◌, ℕ, ◌+◌, List, [], ◌∷◌, ◌++◌, true, false, refl, sym, ap, ◌∙◌, arith}
+use Rattle.std.specs.Prelude.{Bool, ◌||◌, ◌==◌, MatchBool}
 use Rattle.std.specs.List.{list_any, sum_by}
 use Rattle.std.specs.Str.{bytes_eq}
 use Rattle.std.proofs.lemmas.Slice.Eq.{bytes_eq-Decides}
@@ -35,8 +35,13 @@ session_same a =
     ((bytes_eq-Decides a.name a.name).1 refl)
 
 -- a test whether two names are the same
-pub same_name : (a b : List ℕ) (r : Bool) → (IsTrue r ↔ (a ≡ b)) → r ≡ bytes_eq a b
-same_name a b r is = search (rules, bytes_eq-Decides)
+not_true : (b : Bool) → (b ≡ true → ⊥) → false ≡ b
+not_true true is = absurd (is refl)
+not_true false is = refl
+
+pub same_name : (a b : List ℕ) (r : Bool) → MatchBool r (a ≡ b) (a ≢ b) → r ≡ bytes_eq a b
+same_name a b true is = sym ((bytes_eq-Decides a b).1 is)
+same_name a b false is = not_true (bytes_eq a b) (λ e. is ((bytes_eq-Decides a b).0 e))
 
 -- ---- one thing more
 

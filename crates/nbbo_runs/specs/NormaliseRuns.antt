@@ -9,12 +9,13 @@ use Rattle.feed_types.specs.declared.line.LineId.TheVariants.{A}
 use Rattle.line_captures.specs.PacketFormats.{new_packets, packet_parsing}
 use Rattle.text_out.specs.StandardError.{Says, SaysEach}
 use Rattle.normalising.specs.Normalisations.{AnswersNormalising}
+use Rattle.normalising.specs.Reported.{AreReported}
 use Rattle.normalising.specs.Texts.{nowhere}
 use Rattle.normalising.specs.declared.normalise_stop.NormaliseStop.{NormaliseStop}
 use Rattle.normalising.specs.declared.normalised_feed.NormalisedFeed.{NormalisedFeed}
 use Rattle.normalising.specs.declared.output_form.OutputForm.{OutputForm}
 use Rattle.normalising.specs.declared.output_form.OutputForm.TheVariants as forms
-use Rattle.normalising.specs.declared.venue_report.GivenUp.{GivenUp}
+use Rattle.event_sinks.specs.declared.venue_gap.VenueGap.{VenueGap}
 use Rattle.normalising.specs.declared.venue_report.VenueReport.{VenueReport}
 use Rattle.packet_capture.specs.declared.datagram.Address.{Address}
 use Rattle.packet_capture.specs.declared.datagram.Address.TheVariants.{V4}
@@ -57,8 +58,8 @@ pub record IsNormalisedFeed (settings : NormaliseSettings)
   pub skips : feed.skips ≡ settings.skips
 
 -- A capture of a format was normalised onto output, in this form. Standard error has the gaps that
--- were given up, the reports of the venues, and what is to be said of what was read and of the
--- outcome, by `end_texts`; the status is that of the outcome.
+-- were given up, the reports of the venues, both of what was taken, and what is to be said of what
+-- was read and of the outcome, by `end_texts`; the status is that of the outcome.
 pub record NormalisesOver {R W E S F : Type 0} (devices : Devices R W E) (parsing : Parsing S F)
     (end_texts : S → List ℕ → Result (Unit {0}) (ReplayStop F) → List (List ℕ))
     (settings : NormaliseSettings) (snapshots : List (Option SnapshotContent))
@@ -67,11 +68,12 @@ pub record NormalisesOver {R W E S F : Type 0} (devices : Devices R W E) (parsin
   pub is : IsNormalisedFeed settings snapshots feed
   pub form_is : feed.form ≡ form
   pub finish : S
-  pub gaps : List GivenUp
+  pub gaps : List VenueGap
   pub reports : List VenueReport
   pub outcome : Result (Unit {0}) (NormaliseStop F)
   pub answers : AnswersNormalising devices.reading parsing devices.writing feed 1000000000
-      before.input after.input start finish before.output after.output outcome
+      before.input after.input start finish before.output after.output
+      (AreReported feed gaps reports) outcome
   pub says : SaysEach devices.telling (normalise_texts end_texts finish gaps reports outcome)
       before.errors after.errors
   pub ends : status ≡ ending_status outcome

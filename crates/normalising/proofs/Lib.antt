@@ -1,5 +1,6 @@
 mod Heartbeats
 mod Packing
+mod Reports
 mod Running
 mod Sendings
 mod Sent

@@ -1,5 +1,5 @@
 -- What is known while a run goes on.
-use Rattle.std.proofs.Common.{◌≡◌, ℕ, ◌+◌, List, [], ◌∷◌, ◌++◌, drop, map, append_assoc, append-nil, refl, sym, ap, subst, ◌∙◌, inl, Err}
+use Rattle.std.proofs.Common.{◌≡◌, ℕ, ◌+◌, List, [], ◌∷◌, ◌++◌, drop, map, append_assoc, append-nil, refl, sym, ap, subst, ◌∙◌, inl, Result, Ok, Err}
 use Rattle.std.specs.Prelude.{⊤, All}
 use Rattle.std.proofs.lemmas.List.{map-append}
 use Rattle.std.proofs.lemmas.List.Elements.{All-nil, All-cons, All-append}
@@ -10,7 +10,7 @@ use Rattle.normalising.specs.Keeping.{EndsRun, FailedWithin, RunsOn, TookOf}
 use Rattle.normalising.specs.Normalisations.{AnswersNormalising, HasNormalised, IsNoneLeft, TookPart, TookText, venues_normalised}
 use Rattle.normalising.specs.Normalised.{IsNewPoint, NormalisedPoint, NormalisesAll}
 use Rattle.normalising.specs.Texts.{begun_text}
-use Rattle.event_sinks.specs.declared.replay_stop.ReplayStop.TheVariants.{SinkFailed}
+use Rattle.event_sinks.specs.declared.replay_stop.ReplayStop.TheVariants.{Bad, JournalFull, NoMemory, ReadFailed, Short, SinkFailed, TooManyTurns}
 use Rattle.normalising.specs.declared.normalise_stop.NormaliseStop.{NormaliseStop}
 use Rattle.normalising.specs.declared.normalise_stop.NormaliseStop.TheVariants as ends
 use Rattle.normalising.specs.declared.normalise_stop.NormaliseStop.TheVariants.{Fault, Replay}
@@ -159,6 +159,31 @@ module _ {R S F W : Type 0} {reading : Reading R} {parsing : Parsing S F} {writi
           is_at = t.is_after;
         }
 
+    -- the same records were read, and otherwise nothing changed
+    kept_as : {mid to : R} {calls all : ℕ} {finish next : S} {rest left waits : List ℕ} {after : W}
+        {IsAt : NormalisedPoint → Type 0}
+        → (x : Kept reading parsing writing feed from calls mid start finish rest before after waits
+        IsAt)
+        → HasReadRecords reading parsing (venues_normalised feed) from all to start x.records next
+        left
+        → Kept reading parsing writing feed from all to start next left before after waits IsAt
+    kept_as x read = record {
+      records = x.records;
+      first = x.first;
+      is_first = x.is_first;
+      taken = x.taken;
+      text = x.text;
+      left = x.left;
+      at = x.at;
+      normalises = x.normalises;
+      none_left = x.none_left;
+      shown = x.shown;
+      took = x.took;
+      all = x.all;
+      is_at = x.is_at;
+      read = read;
+    }
+
     -- a piece without a record was passed
     pub kept_passed : {to : R} {calls : ℕ} {finish next : S} {rest left seen waits : List ℕ}
         {after : W} {IsAt : NormalisedPoint → Type 0} (len : ℕ) → seen ≡ rest
@@ -166,25 +191,10 @@ module _ {R S F W : Type 0} {reading : Reading R} {parsing : Parsing S F} {writi
         → Kept reading parsing writing feed from calls to start finish rest before after waits IsAt
         → Kept reading parsing writing feed from calls to start next left before after waits IsAt
     kept_passed {to = to} {calls = calls} {next = next} {left = left} len same gone piece x =
-        record {
-          records = x.records;
-          first = x.first;
-          is_first = x.is_first;
-          taken = x.taken;
-          text = x.text;
-          left = x.left;
-          at = x.at;
-          normalises = x.normalises;
-          none_left = x.none_left;
-          shown = x.shown;
-          took = x.took;
-          all = x.all;
-          is_at = x.is_at;
-          read = subst (λ (rs : List TimedRecord). HasReadRecords reading parsing
-              (venues_normalised feed) from calls to start rs next left) (append-nil x.records)
-              (read_more laws x.records [] len same gone piece
-              (All-nil (IsRecord (venues_normalised feed))) x.read);
-        }
+        kept_as x (subst (λ (rs : List TimedRecord). HasReadRecords reading parsing
+        (venues_normalised feed) from calls to start rs next left) (append-nil x.records)
+        (read_more laws x.records [] len same gone piece
+        (All-nil (IsRecord (venues_normalised feed))) x.read))
 
     -- more bytes came
     pub kept_read : {mid to : R} {calls : ℕ} {finish : S} {rest longer waits : List ℕ} {after : W}
@@ -193,29 +203,14 @@ module _ {R S F W : Type 0} {reading : Reading R} {parsing : Parsing S F} {writi
         → Kept reading parsing writing feed from calls mid start finish rest before after waits IsAt
         → Kept reading parsing writing feed from all to start finish longer before after waits IsAt
     kept_read {mid = mid} {to = to} {calls = calls} {finish = finish} {rest = rest}
-        all count m x = record {
-          records = x.records;
-          first = x.first;
-          is_first = x.is_first;
-          taken = x.taken;
-          text = x.text;
-          left = x.left;
-          at = x.at;
-          normalises = x.normalises;
-          none_left = x.none_left;
-          shown = x.shown;
-          took = x.took;
-          all = x.all;
-          is_at = x.is_at;
-          read = record {
-            each = x.read.each;
-            bytes = x.read.bytes ++ m.bytes;
-            given = rw (← count) (laws.gives_more from mid to calls 1 x.read.bytes
-                m.bytes x.read.given m.given);
-            read = rw m.behind (laws.reads_longer start finish x.read.bytes rest m.bytes
-                x.records x.read.read);
-          };
-        }
+        all count m x = kept_as x (record {
+          each = x.read.each;
+          bytes = x.read.bytes ++ m.bytes;
+          given = rw (← count) (laws.gives_more from mid to calls 1 x.read.bytes
+              m.bytes x.read.given m.given);
+          read = rw m.behind (laws.reads_longer start finish x.read.bytes rest m.bytes
+              x.records x.read.read);
+        })
 
     -- what waited was written
     pub kept_written : {to : R} {calls : ℕ} {finish : S} {rest waits left : List ℕ}
@@ -258,7 +253,7 @@ module _ {R S F W : Type 0} {reading : Reading R} {parsing : Parsing S F} {writi
         {IsAt : NormalisedPoint → Type 0} (IsRest : List ℕ → Type 0) (CameTo : ℕ → R → Type 0)
         → waits ≡ [] → IsRest rest → CameTo calls mid
         → Kept reading parsing writing feed from calls mid start finish rest before after waits IsAt
-        → HasNormalised reading parsing feed from start finish IsRest CameTo IsNoneLeft
+        → HasNormalised reading parsing feed from start finish IsRest CameTo IsNoneLeft IsAt
         (TookText writing before after)
     has_all {mid = mid} {calls = calls} {rest = rest} {after = after} IsRest CameTo none is came x =
         record {
@@ -277,6 +272,7 @@ module _ {R S F W : Type 0} {reading : Reading R} {parsing : Parsing S F} {writi
           after = x.at;
           normalises = x.normalises;
           is_left = x.none_left;
+          is_after = x.is_at;
           written = subst (λ (l : List ℕ). writing.adds before l after)
               (sym (x.all ∙ ap (λ (l : List ℕ). x.shown ++ l) none ∙ append-nil x.shown)) x.took;
         }
@@ -286,7 +282,7 @@ module _ {R S F W : Type 0} {reading : Reading R} {parsing : Parsing S F} {writi
         {IsAt : NormalisedPoint → Type 0} → Wrote writing.adds after waits last
         → Kept reading parsing writing feed from calls to start finish rest before after waits IsAt
         → HasNormalised reading parsing feed from start finish (λ rest. ⊤) (λ calls mid. mid ≡ to)
-        (λ left. ⊤) (TookPart writing feed before last)
+        (λ left. ⊤) (λ at. ⊤) (TookPart writing feed before last)
     has_part {to = to} {calls = calls} {rest = rest} {waits = waits} {after = after} {last = last}
         part x = record {
           records = x.records;
@@ -304,6 +300,7 @@ module _ {R S F W : Type 0} {reading : Reading R} {parsing : Parsing S F} {writi
           after = x.at;
           normalises = x.normalises;
           is_left = tt;
+          is_after = tt;
           written = (
             [],
             inl refl,
@@ -328,7 +325,7 @@ module _ {R S F W : Type 0} {reading : Reading R} {parsing : Parsing S F} {writi
         → (IsWritten : NormalisedPoint → List TimedRecord → List ℕ → Type 0)
         → IsWritten new left (begun_text feed.form ++ (x.text ++ text))
         → HasNormalised reading parsing feed from start next (λ rest. ⊤) (λ calls mid. mid ≡ to)
-        (λ left. ⊤) IsWritten
+        (λ left. ⊤) (λ at. ⊤) IsWritten
     within_record {to = to} {calls = calls} {rest = rest} r len same piece is x taken text left new
         normalises IsWritten written = record {
           records = x.records ++ r ∷ [];
@@ -348,6 +345,7 @@ module _ {R S F W : Type 0} {reading : Reading R} {parsing : Parsing S F} {writi
           after = new;
           normalises = joined r x taken text left new normalises;
           is_left = tt;
+          is_after = tt;
           written = written;
         }
 
@@ -360,7 +358,7 @@ module _ {R S F W : Type 0} {reading : Reading R} {parsing : Parsing S F} {writi
         IsAt)
         → FailedWithin writing feed (r ∷ []) x.at after last waits
         → HasNormalised reading parsing feed from start next (λ rest. ⊤) (λ calls mid. mid ≡ to)
-        (λ left. ⊤) (TookPart writing feed before last)
+        (λ left. ⊤) (λ at. ⊤) (TookPart writing feed before last)
     failed_record {waits = waits} {after = after} {last = last} r len same piece is x t =
         within_record r len same piece is x t.taken t.text t.left t.after t.normalises
         (TookPart writing feed before last) (
@@ -394,7 +392,7 @@ module _ {R S F W : Type 0} {reading : Reading R} {parsing : Parsing S F} {writi
 
       pub stopped_record : {last : W} → writing.adds mid longer last
           → HasNormalised reading parsing feed from start next (λ rest. ⊤) (λ calls mid. mid ≡ to)
-          (λ left. ⊤) (TookText writing before last)
+          (λ left. ⊤) (λ at. ⊤) (TookText writing before last)
       stopped_record {last = last} wrote =
           within_record r len same piece is x t.taken t.text t.left t.after t.normalises
           (TookText writing before last)
@@ -403,7 +401,7 @@ module _ {R S F W : Type 0} {reading : Reading R} {parsing : Parsing S F} {writi
 
       pub stopped_part : {last : W} → Wrote writing.adds mid longer last
           → HasNormalised reading parsing feed from start next (λ rest. ⊤) (λ calls mid. mid ≡ to)
-          (λ left. ⊤) (TookPart writing feed before last)
+          (λ left. ⊤) (λ at. ⊤) (TookPart writing feed before last)
       stopped_part {last = last} part =
           within_record r len same piece is x t.taken t.text t.left t.after t.normalises
           (TookPart writing feed before last) (
@@ -421,7 +419,7 @@ module _ {R S F W : Type 0} {reading : Reading R} {parsing : Parsing S F} {writi
     pub stop_answers : {to : R} {calls : ℕ} {finish next : S}
         {rest seen waits : List ℕ} {after : W} {IsAt : NormalisedPoint → Type 0}
         (turns : ℕ) (longer : List ℕ) (mid last : W)
-        (IsLeft : List TimedRecord → Type 0) (IsAfter : NormalisedPoint → Type 0)
+        (IsLeft : List TimedRecord → Type 0) (IsAfter IsPoint : NormalisedPoint → Type 0)
         (r : TimedRecord) (len : ℕ) (stop : VenueStop) (ends : NormaliseStop F)
         (same : seen ≡ rest) (piece : TakesPiece parsing.reads finish seen (r ∷ []) len next)
         (is : IsRecord (venues_normalised feed) r.what)
@@ -431,46 +429,119 @@ module _ {R S F W : Type 0} {reading : Reading R} {parsing : Parsing S F} {writi
         → RunsOn {A = Unit {0}} writing feed (r ∷ []) x.at IsLeft IsAfter after mid waits longer
         (Err stop)
         → EndsRun writing longer mid last stop ends
-        → AnswersNormalising reading parsing writing feed turns from to start next before last
+        → AnswersNormalising reading parsing writing feed turns from to start next before last IsPoint
         (Err ends)
-    stop_answers {to = to} {next = next} turns longer mid last IsLeft IsAfter r len
+    stop_answers {to = to} {next = next} turns longer mid last IsLeft IsAfter IsPoint r len
         (Sink stop) ends same piece is writes x t e =
         subst (λ (s : NormaliseStop F).
-        AnswersNormalising reading parsing writing feed turns from to start next before last
+        AnswersNormalising reading parsing writing feed turns from to start next before last IsPoint
         (Err s))
         (sym e.0)
         (subst (λ (w : W). AnswersNormalising reading parsing writing feed turns from to
-        start next before w (Err (Replay SinkFailed))) (sym e.1) (
+        start next before w IsPoint (Err (Replay SinkFailed))) (sym e.1) (
           failed_record r len same piece is x t,
           t.failed ∙ ap (λ (n : ℕ). n + 1) writes,
         ))
-    stop_answers turns longer mid last IsLeft IsAfter r len (Book fault)
+    stop_answers turns longer mid last IsLeft IsAfter IsPoint r len (Book fault)
         (ends.Book venue why) same piece is writes x t e =
         stopped_record r len same piece is x t e.0
-    stop_answers {to = to} {next = next} turns longer mid last IsLeft IsAfter r len
+    stop_answers {to = to} {next = next} turns longer mid last IsLeft IsAfter IsPoint r len
         (Book fault) (Replay why) same piece is writes x t e =
         subst (λ (s : NormaliseStop F).
-        AnswersNormalising reading parsing writing feed turns from to start next before last
+        AnswersNormalising reading parsing writing feed turns from to start next before last IsPoint
         (Err s))
         (sym e.0) (
           stopped_part r len same piece is x t e.1,
           e.2 ∙ ap (λ (n : ℕ). n + 1) (t.puts.kept ∙ writes),
         )
-    stop_answers {to = to} {next = next} turns longer mid last IsLeft IsAfter r len
+    stop_answers {to = to} {next = next} turns longer mid last IsLeft IsAfter IsPoint r len
         (Book fault) (Fault why) same piece is writes x t e =
         subst (λ (s : NormaliseStop F).
-        AnswersNormalising reading parsing writing feed turns from to start next before last
+        AnswersNormalising reading parsing writing feed turns from to start next before last IsPoint
         (Err s))
         (sym e.0) (
           stopped_part r len same piece is x t e.1,
           e.2 ∙ ap (λ (n : ℕ). n + 1) (t.puts.kept ∙ writes),
         )
-    stop_answers {to = to} {next = next} turns longer mid last IsLeft IsAfter r len
+    stop_answers {to = to} {next = next} turns longer mid last IsLeft IsAfter IsPoint r len
         (Book fault) (ends.Snapshot venue why) same piece is writes x t e =
         subst (λ (s : NormaliseStop F).
-        AnswersNormalising reading parsing writing feed turns from to start next before last
+        AnswersNormalising reading parsing writing feed turns from to start next before last IsPoint
         (Err s))
         (sym e.0) (
           stopped_part r len same piece is x t e.1,
           e.2 ∙ ap (λ (n : ℕ). n + 1) (t.puts.kept ∙ writes),
         )
+
+-- the point is of a weaker kind, too
+has_weaker : {R S F : Type 0} (reading : Reading R) (parsing : Parsing S F)
+    (feed : NormalisedFeed) (from : R) (start finish : S) (IsRest : List ℕ → Type 0)
+    (CameTo : ℕ → R → Type 0) (IsLeft : List TimedRecord → Type 0)
+    (IsMid IsAfter : NormalisedPoint → Type 0)
+    (IsWritten : NormalisedPoint → List TimedRecord → List ℕ → Type 0)
+    → ((p : NormalisedPoint) → IsMid p → IsAfter p)
+    → HasNormalised reading parsing feed from start finish IsRest CameTo IsLeft IsMid IsWritten
+    → HasNormalised reading parsing feed from start finish IsRest CameTo IsLeft IsAfter IsWritten
+has_weaker reading parsing feed from start finish IsRest CameTo IsLeft IsMid IsAfter IsWritten lead
+    x = record {
+      records = x.records;
+      calls = x.calls;
+      mid = x.mid;
+      rest = x.rest;
+      read = x.read;
+      is_rest = x.is_rest;
+      came_to = x.came_to;
+      first = x.first;
+      is_first = x.is_first;
+      taken = x.taken;
+      text = x.text;
+      left = x.left;
+      after = x.after;
+      normalises = x.normalises;
+      is_left = x.is_left;
+      is_after = lead x.after x.is_after;
+      written = x.written;
+    }
+
+pub answers_weaker : {R S F W : Type 0} (reading : Reading R) (parsing : Parsing S F)
+    (writing : Writing W) (feed : NormalisedFeed) (turns : ℕ) (from to : R) (start finish : S)
+    (before after : W) (IsMid IsAfter : NormalisedPoint → Type 0)
+    → ((p : NormalisedPoint) → IsMid p → IsAfter p)
+    → (result : Result (Unit {0}) (NormaliseStop F))
+    → AnswersNormalising reading parsing writing feed turns from to start finish before after IsMid
+    result
+    → AnswersNormalising reading parsing writing feed turns from to start finish before after
+    IsAfter result
+answers_weaker reading parsing writing feed turns from to start finish before after IsMid IsAfter
+    lead (Ok done) x =
+    has_weaker reading parsing feed from start finish _ _ _ IsMid IsAfter _ lead x
+answers_weaker reading parsing writing feed turns from to start finish before after IsMid IsAfter
+    lead (Err (Replay (Bad fault))) x =
+    has_weaker reading parsing feed from start finish _ _ _ IsMid IsAfter _ lead x
+answers_weaker reading parsing writing feed turns from to start finish before after IsMid IsAfter
+    lead (Err (Replay Short)) x =
+    has_weaker reading parsing feed from start finish _ _ _ IsMid IsAfter _ lead x
+answers_weaker reading parsing writing feed turns from to start finish before after IsMid IsAfter
+    lead (Err (Replay ReadFailed)) x =
+    (has_weaker reading parsing feed from start finish _ _ _ IsMid IsAfter _ lead x.0, x.1)
+answers_weaker reading parsing writing feed turns from to start finish before after IsMid IsAfter
+    lead (Err (Replay TooManyTurns)) x =
+    has_weaker reading parsing feed from start finish _ _ _ IsMid IsAfter _ lead x
+answers_weaker reading parsing writing feed turns from to start finish before after IsMid IsAfter
+    lead (Err (Replay SinkFailed)) x =
+    x
+answers_weaker reading parsing writing feed turns from to start finish before after IsMid IsAfter
+    lead (Err (Replay NoMemory)) x =
+    x
+answers_weaker reading parsing writing feed turns from to start finish before after IsMid IsAfter
+    lead (Err (Replay JournalFull)) x =
+    x
+answers_weaker reading parsing writing feed turns from to start finish before after IsMid IsAfter
+    lead (Err (Fault fault)) x =
+    x
+answers_weaker reading parsing writing feed turns from to start finish before after IsMid IsAfter
+    lead (Err (ends.Snapshot venue fault)) x =
+    x
+answers_weaker reading parsing writing feed turns from to start finish before after IsMid IsAfter
+    lead (Err (ends.Book venue fault)) x =
+    x

@@ -1,6 +1,8 @@
 -- What a venue takes.
-use Rattle.std.proofs.Common.{◌≡◌, ℕ, ◌+◌, ◌≤◌, List, [], ◌∷◌, ◌++◌, length, refl, sym, ap, ap₂, subst, ◌∙◌, inr, arith, append-nil, append_assoc, None, Option, Some, Result, Ok, Err, IfErr, OnOk}
-use Rattle.std.specs.Prelude.{flat_map, slice_index_or}
+use Rattle.std.proofs.Common.{◌≡◌, ℕ, ◌+◌, ◌<◌, ◌≤◌, ◌||◌, Bool, true, false, List, [], ◌∷◌, ◌++◌, length, refl, sym, ap, ap₂, subst, ◌∙◌, inr, arith, append-nil, append_assoc, None, Option, Some, Result, Ok, Err, IfErr, OnOk}
+use Rattle.std.specs.Prelude.{flat_map, nat_lt, slice_index_or}
+use Rattle.std.proofs.lemmas.Bool.{false≢true}
+use Rattle.std.proofs.lemmas.Bool.Decides.{nat_tests}
 use Rattle.std.proofs.lemmas.List.{map-append}
 use Rattle.feed_types.specs.declared.item.Numbered.{Numbered}
 use Rattle.feed_types.specs.declared.line.LineId.{LineId}
@@ -11,22 +13,25 @@ use Rattle.line_arbiter.specs.declared.outcome.LineFault.{LineFault}
 use Rattle.line_arbiter.specs.declared.outcome.Outcome.{Outcome}
 use Rattle.line_arbiter.specs.Histories.{Begun, History, after_input, after_renewal, all_begun, names_of, new_session}
 use Rattle.line_arbiter.specs.Outcomes.{IsOutcome}
-use Rattle.line_arbiter.specs.Packets.{Input, Skip, arrival_of, end_of}
+use Rattle.line_arbiter.specs.Packets.{Arrived, Input, Skip, arrival_of, end_of}
 use Rattle.line_arbiter.specs.Renewals.{IsRenewal}
-use Rattle.line_arbiter.specs.Skips.{IsSkip}
+use Rattle.line_arbiter.specs.Skips.{IsSkip, MaySkip}
+use Rattle.line_arbiter.specs.Streams.{front_of}
 use Rattle.line_arbiter.specs.States.{IsRenewed, KeepsItsSession}
 use Rattle.capture_records.specs.Capture.{CaptureRecord, datagram_record, renewal_record, skip_record}
 use Rattle.event_sinks.specs.declared.event_sink.SinkStop.{SinkStop}
+use Rattle.event_sinks.specs.declared.venue_gap.VenueGap.{VenueGap}
 use Rattle.text_out.specs.Devices.{Writing, Wrote}
 use Rattle.venue_normaliser.specs.declared.end_number.EndNumber.{EndNumber}
+use Rattle.venue_normaliser.specs.Brought.{has_skip_past}
 use Rattle.venue_normaliser.specs.Ends.{read_as}
 use Rattle.venue_normaliser.specs.Outputs.{AreShown, IsPutOutFrom, Opening, from_start, opened_at, put_first}
 use Rattle.venue_normaliser.specs.Snapshots.{SnapshotContent}
 use Rattle.venue_normaliser.specs.States.{FitsOpened, FitsPackets, IsNewNormaliser, KeepsItsBook, NormaliserState, PutsOutFrom, Resumes, opening_of}
 use Rattle.item_packets.specs.Openings.{first_put}
 use Rattle.normalising.specs.Carried.{AreWritten, RunsFrom, last_put}
-use Rattle.normalising.specs.Keeping.{FollowsNew, FollowsVenue, TakesAtVenue}
-use Rattle.normalising.specs.Normalised.{BeginsWith, NormalisedHistory, NormalisesAt, NormalisesRenewal, PutsOutMore, RenewsBy, inputs_of, new_normalised, quoted_keys, snapshot_at}
+use Rattle.normalising.specs.Keeping.{FollowsNew, FollowsVenue, SkippedWhere, TakesAtVenue, gap_noted}
+use Rattle.normalising.specs.Normalised.{BeginsWith, NormalisedHistory, NormalisesAt, NormalisesRenewal, PutsOutMore, RenewsBy, gap_skipped, inputs_of, new_normalised, quoted_keys, snapshot_at}
 use Rattle.normalising.specs.Texts.{datagram_text, record_text}
 use Rattle.normalising.specs.Writes.{PutsPackets, PutsText, StopsPut, origin_of, text_of}
 use Rattle.normalising.specs.declared.normalised_feed.NormalisedFeed.{NormalisedFeed}
@@ -306,6 +311,58 @@ skip_at feed time place number h before after f is rest text puts = record {
   is = is;
   does = puts;
 }
+
+or_true : (b : Bool) → (b || true) ≡ true
+or_true true = refl
+or_true false = refl
+
+-- a skip past a number that comes last is one
+skip_last : (from : ℕ) (packets : List Input) (n : ℕ) → nat_lt from n ≡ true
+    → has_skip_past from (packets ++ Skip n ∷ []) ≡ true
+skip_last from [] n past = ap (λ (b : Bool). b || false) past
+skip_last from (Arrived a ∷ packets) n past = skip_last from packets n past
+skip_last from (Skip k ∷ packets) n past =
+    ap (λ (b : Bool). nat_lt from k || b) (skip_last from packets n past) ∙ or_true (nat_lt from k)
+
+-- a gap was given up by a skip that may be
+pub skipped_here : (opening : Opening) (packets : List Input) (number : ℕ)
+    (old new : NormaliserState) → FitsOpened old opening packets
+    → FitsOpened new opening (packets ++ Skip number ∷ []) → MaySkip packets number
+    → SkippedWhere packets number old new true
+skipped_here opening packets number old new fits after may =
+    let begins = fits.from.1 in
+    let past = may.past in
+    let test : nat_lt opening.number number ≡ true = grind (arith, nat_tests) in
+    (may, after.given_up ∙ skip_last opening.number packets number test)
+
+none_skipped : (venue number front : ℕ) (before : Bool)
+    → gap_skipped venue number front before false ≡ []
+none_skipped venue number front true = refl
+none_skipped venue number front false = refl
+
+none_between : (venue number front : ℕ) (before : Bool)
+    → gap_skipped venue number front before before ≡ []
+none_between venue number front true = refl
+none_between venue number front false = refl
+
+-- the gap that is returned of a skip is the one that the skip gives up
+pub skip_gap : (packets : List Input) (venue number front : ℕ) (old new : NormaliserState)
+    (before is_given_up : Bool) (gap : Option VenueGap)
+    → SkippedWhere packets number old new is_given_up → front ≡ front_of packets
+    → before ≡ old.has_given_up
+    → ((is_given_up ≡ true → front + 1 < number)
+    → gap_noted gap ≡ gap_skipped venue number front before is_given_up)
+    → gap_noted gap
+    ≡ gap_skipped venue number (front_of packets) old.has_given_up new.has_given_up
+skip_gap packets venue number front old new before true gap skipped same was put =
+    put (λ e. let past = skipped.0.past in omega (arith, past, same))
+    ∙ ap (λ (n : ℕ). gap_skipped venue number n before true) same
+    ∙ ap₂ (λ (b c : Bool). gap_skipped venue number (front_of packets) b c) was (sym skipped.1)
+skip_gap packets venue number front old new before false gap skipped same was put =
+    put (λ e. absurd (false≢true e)) ∙ none_skipped venue number front before
+    ∙ sym (ap (λ (s : NormaliserState).
+    gap_skipped venue number (front_of packets) old.has_given_up s.has_given_up) skipped
+    ∙ none_between venue number (front_of packets) old.has_given_up)
 
 -- a venue whose normaliser is the same, and of which the same is ready, follows its history
 pub follows_same : (feed : NormalisedFeed) (place : ℕ) (v w : NormalisedVenue)

@@ -1,5 +1,5 @@
 -- The venues of a run: one of them takes a record, and the others stay.
-use Rattle.std.proofs.Common.{◌≡◌, ◌≢◌, ◌⊎◌, ℕ, zero, suc, ◌+◌, ◌<◌, Bool, true, false, List, [], ◌∷◌, ◌++◌, length, length-append, refl, sym, ap, subst, ◌∙◌, inl, inr, arith, Option, Some, None, Result, Ok, Err}
+use Rattle.std.proofs.Common.{◌≡◌, ◌≢◌, ◌⊎◌, ℕ, zero, suc, ◌+◌, ◌<◌, Bool, true, false, List, [], ◌∷◌, ◌++◌, length, length-append, append-nil, refl, sym, ap, ap₂, subst, ◌∙◌, inl, inr, arith, Option, Some, None, Result, Ok, Err}
 use Rattle.std.specs.Prelude.{⊤, nat_lt, slice_get, slice_set, if◌then◌else◌}
 use Rattle.std.proofs.Math.ListN.{length-set}
 use Rattle.std.proofs.lemmas.Option.{slice_get_within}
@@ -9,14 +9,19 @@ use Rattle.feed_types.specs.declared.line.LineId.{LineId}
 use Rattle.mold_packet.specs.declared.fault.PacketFault.{PacketFault}
 use Rattle.mold_packet.specs.Content.{Content, Spells}
 use Rattle.mold_packet.specs.Faults.{HasFault}
+use Rattle.line_arbiter.specs.Packets.{Input}
+use Rattle.line_arbiter.specs.Streams.{front_of}
+use Rattle.venue_normaliser.specs.Outputs.{Opening}
+use Rattle.venue_normaliser.specs.States.{FitsOpened}
 use Rattle.capture_records.specs.Capture.{CaptureRecord, datagram_record, record_venue, self_help_record, skip_record}
 use Rattle.event_sinks.specs.declared.event_sink.SinkStop.{SinkStop}
+use Rattle.event_sinks.specs.declared.venue_gap.VenueGap.{VenueGap}
 use Rattle.itch_book.specs.declared.fault.BookFault.{BookFault}
 use Rattle.capture_records.specs.Formats.{TimedRecord, timed_record}
 use Rattle.run_settings.specs.declared.skip_rule.SkipRule.TheVariants.{Gaps}
 use Rattle.text_out.specs.Devices.{Writing, Wrote}
-use Rattle.normalising.specs.Keeping.{FollowHistories, FollowNew, FollowsAt, FollowsNew, FollowsRun, FollowsVenue, GivesNext, IsNoted, IsSameRun, IsSameVenue, PutsInFirst, RunsOn, TakesAtVenue, TakesToo}
-use Rattle.normalising.specs.Normalised.{IsNewVenue, IsNormalisedNext, IsPacketOfName, MayPutIn, NormalisedHistory, NormalisedPoint, NormalisesAt, NormalisesRecord, time_after}
+use Rattle.normalising.specs.Keeping.{FollowHistories, FollowNew, FollowsAt, FollowsNew, FollowsRun, FollowsVenue, GivesNext, IsNoted, IsSameRun, IsSameVenue, PutsInFirst, RunsOn, TakesAtVenue, TakesToo, gap_noted}
+use Rattle.normalising.specs.Normalised.{gap_given_up, gap_skipped, inputs_of, IsNewVenue, IsNormalisedNext, IsPacketOfName, MayPutIn, NormalisedHistory, NormalisedPoint, NormalisesAt, NormalisesRecord, time_after}
 use Rattle.normalising.specs.Texts.{record_text}
 use Rattle.normalising.specs.Writes.{PutsText}
 use Rattle.normalising.specs.declared.normalised_feed.NormalisedFeed.{NormalisedFeed}
@@ -103,7 +108,7 @@ follow_same feed vs hs i v w f at same =
     (follow_set feed i vs hs w h.0 f
     (follows_same feed i v w h.0 same.normaliser same.ready h.2))
 
-slice_get_push : {X : Type 0} (xs : List X) (y : X) (i : ℕ) (x : X)
+pub slice_get_push : {X : Type 0} (xs : List X) (y : X) (i : ℕ) (x : X)
     → slice_get (xs ++ y ∷ []) i ≡ Some x → (slice_get xs i ≡ Some x) ⊎ ((i ≡ length xs) × (x ≡ y))
 slice_get_push [] y zero x e = inr (refl, cc)
 slice_get_push [] y (suc i) x e = absurd cc
@@ -172,10 +177,13 @@ time_again latest (Some time) = by_test (nat_lt time 4294967296000000000)
 
 -- ---- one record
 
-abbrev pub point_with : NormalisedPoint → (place : ℕ) → (latest : ℕ) → NormalisedHistory
-    → NormalisedPoint
-point_with at place latest after =
-    record { venues = slice_set at.venues place after; latest = latest }
+abbrev pub point_with : NormalisedPoint → CaptureRecord → (latest : ℕ)
+    → (before after : NormalisedHistory) → NormalisedPoint
+point_with at r latest before after = record {
+  venues = slice_set at.venues (record_venue r) after;
+  latest = latest;
+  given_up = at.given_up ++ gap_given_up r before after;
+}
 
 module _ {W : Type 0} (writing : Writing W) (adds_none : (s : W) → writing.adds s [] s)
     (feed : NormalisedFeed) (r : CaptureRecord) (t : TimedRecord) (records left : List TimedRecord)
@@ -185,43 +193,46 @@ module _ {W : Type 0} (writing : Writing W) (adds_none : (s : W) → writing.add
     (here : slice_get vs (record_venue r) ≡ Some v)
     (is : t.what ≡ r) (next : IsNormalisedNext feed records t left)
     (time_is : time ≡ time_after at.latest t.time) where
+  before_it : NormalisedHistory
+  before_it = (history_at feed vs at.venues (record_venue r) v f here).0
+
+  after_it : NormalisedHistory → NormalisedPoint
+  after_it after = point_with at r time before_it after
+
   of_record : (rest : List Numbered) (text : List ℕ) (after : NormalisedHistory)
-      → NormalisesAt feed time r (history_at feed vs at.venues (record_venue r) v f here).0
-      rest text after
-      → NormalisesRecord feed t at rest text (point_with at (record_venue r) time after)
+      → NormalisesAt feed time r before_it rest text after
+      → NormalisesRecord feed t at rest text (after_it after)
   of_record rest text after n =
       let h = history_at feed vs at.venues (record_venue r) v f here in
       subst (λ (what : CaptureRecord). NormalisesRecord feed (record t { what = what }) at rest text
-      (point_with at (record_venue r) time after)) (sym is) (record {
+      (after_it after)) (sym is) (record {
         before = h.0;
         after = after;
         at = h.1;
-        normalises = subst (λ (now : ℕ). NormalisesAt feed now r
-            (history_at feed vs at.venues (record_venue r) v f here).0 rest text after) time_is n;
+        normalises = subst (λ (now : ℕ). NormalisesAt feed now r before_it rest text after)
+            time_is n;
         venues = refl;
         latest = time_is;
+        given_up = refl;
       })
 
   -- a venue's record is one of the run
   pub venue_next : {A : Type 0} (IsAfter : NormalisedPoint → Type 0) (result : Result A VenueStop)
-      → TakesAtVenue writing feed time (record_venue r) r
-      (history_at feed vs at.venues (record_venue r) v f here).0 w from to waited waits
+      → TakesAtVenue writing feed time (record_venue r) r before_it w from to waited waits
       result
-      → ((after : NormalisedHistory)
+      → ((after : NormalisedHistory) → FollowsVenue feed (record_venue r) w after
       → FollowHistories feed (slice_set vs (record_venue r) w)
-      (slice_set at.venues (record_venue r) after)
-      → IsAfter (point_with at (record_venue r) time after))
+      (slice_set at.venues (record_venue r) after) → IsAfter (after_it after))
       → RunsOn writing feed records at (λ l. l ≡ left) IsAfter from to waited waits result
   venue_next IsAfter (Ok done) took lead = record {
     taken = t ∷ [];
     text = took.text;
     left = left;
-    after = point_with at (record_venue r) time took.after;
-    normalises = all_one feed records at t took.text left
-        (point_with at (record_venue r) time took.after)
+    after = after_it took.after;
+    normalises = all_one feed records at t took.text left (after_it took.after)
         next (of_record [] took.text took.after took.normalises);
     is_left = refl;
-    is_after = lead took.after
+    is_after = lead took.after took.follows
         (follow_set feed (record_venue r) vs at.venues w took.after f took.follows);
     puts = took.puts;
   }
@@ -236,7 +247,7 @@ module _ {W : Type 0} (writing : Writing W) (adds_none : (s : W) → writing.add
       t,
       left,
       took.rest,
-      point_with at (record_venue r) time took.after,
+      after_it took.after,
       next,
       of_record took.rest took.text took.after took.normalises,
     );
@@ -290,26 +301,6 @@ stop_runs A B writing feed records at IsLeft IsOther IsMid IsAfter from to waite
 stop_runs A B writing feed records at IsLeft IsOther IsMid IsAfter from to waited waits
     (Book fault) x = x
 
--- what a book stops after something was taken
-pub book_runs : {W A : Type 0} (B : Type 0) (writing : Writing W) (feed : NormalisedFeed)
-    (records : List TimedRecord) (at : NormalisedPoint)
-    (IsLeft IsOther : List TimedRecord → Type 0) (IsMid IsAfter : NormalisedPoint → Type 0)
-    (from to : W) (waited waits : List ℕ) (a : A) (fault : BookFault)
-    → RunsOn {A = A} writing feed records at IsLeft IsMid from to waited waits (Ok a)
-    → RunsOn {A = B} writing feed records at IsOther IsAfter from to waited waits
-    (Err (Book fault))
-book_runs B writing feed records at IsLeft IsOther IsMid IsAfter from to waited waits a fault x =
-    record {
-      taken = x.taken;
-      text = x.text;
-      left = x.left;
-      after = x.after;
-      normalises = x.normalises;
-      is_left = tt;
-      is_after = tt;
-      puts = x.puts;
-    }
-
 -- a venue's record, whichever is the next one
 pub gives_next : {W A : Type 0} (writing : Writing W) → ((s : W) → writing.adds s [] s)
     → (r : CaptureRecord) (old new : NormalisedVenues) (v w : NormalisedVenue) (from to : W)
@@ -322,14 +313,18 @@ pub gives_next : {W A : Type 0} (writing : Writing W) → ((s : W) → writing.a
     → FollowsVenue feed (record_venue r) v h → old.output.page.form ≡ feed.form
     → TakesAtVenue writing feed old.latest (record_venue r) r h w from to
     old.output.page.page new.output.page.page result)
+    → ((feed : NormalisedFeed) (h after : NormalisedHistory)
+    → FollowsVenue feed (record_venue r) v h → FollowsVenue feed (record_venue r) w after
+    → new.given_up.items ≡ old.given_up.items ++ gap_given_up r h after)
     → GivesNext writing r old new from to result
-gives_next writing adds_none r old new v w from to result here set settings latest form takes =
+gives_next writing adds_none r old new v w from to result here set settings latest form takes
+    gaps =
     λ t records left at f is next.
     let h = history_at old.settings old.venues.items at.venues (record_venue r) v f.venues here in
     venue_next writing adds_none old.settings r t records left at old.latest v w old.venues.items
     from to old.output.page.page new.output.page.page f.venues here is next f.latest
     (FollowsAt new t.time) result (takes old.settings h.0 h.2 f.form)
-    (λ after follows. (
+    (λ after it follows. (
       record {
         venues = subst (λ (feed : NormalisedFeed). FollowHistories feed new.venues.items
             (slice_set at.venues (record_venue r) after)) (sym settings)
@@ -338,6 +333,8 @@ gives_next writing adds_none r old new v w from to result here set settings late
         latest = latest ∙ f.latest ∙ sym (time_again at.latest t.time)
             ∙ ap (λ (l : ℕ). time_after l t.time) (sym f.latest);
         form = form ∙ f.form ∙ ap (λ (feed : NormalisedFeed). feed.form) (sym settings);
+        given_up = gaps old.settings h.0 after h.2 it
+            ∙ ap (λ (l : List VenueGap). l ++ gap_given_up r h.0 after) f.given_up;
       },
       sym latest,
     ))
@@ -360,7 +357,41 @@ gives_stop writing adds_none r old v from to waits stop here takes =
     let h = history_at old.settings old.venues.items at.venues (record_venue r) v f.venues here in
     venue_next writing adds_none old.settings r t records left at old.latest v v old.venues.items
     from to old.output.page.page waits f.venues here is next f.latest {A = Unit {0}} (λ p. ⊤)
-    (Err stop) (takes old.settings h.0 h.2 f.form) (λ after follows. tt)
+    (Err stop) (takes old.settings h.0 h.2 f.form) (λ after it follows. tt)
+
+-- the gap that a skip gives up of a venue is noted
+pub skip_gaps : (old new : List VenueGap) (v w : NormalisedVenue) (venue number : ℕ)
+    (gap : Option VenueGap) → new ≡ old ++ gap_noted gap
+    → ((opening : Opening) (packets : List Input) → FitsOpened v.normaliser opening packets
+    → gap_noted gap ≡ gap_skipped v.normaliser.lines.venue number (front_of packets)
+    v.normaliser.has_given_up w.normaliser.has_given_up)
+    → (feed : NormalisedFeed) (h after : NormalisedHistory) → FollowsVenue feed venue v h
+    → FollowsVenue feed venue w after
+    → new ≡ old ++ gap_given_up (skip_record venue number) h after
+skip_gaps old new v w venue number gap put says feed h after f g =
+    let front = front_of (inputs_of h) in
+    put ∙ ap (λ (l : List VenueGap). old ++ l)
+    (says h.opening (inputs_of h) f.fits
+    ∙ ap (λ (n : ℕ). gap_skipped n number front v.normaliser.has_given_up
+    w.normaliser.has_given_up) f.venue
+    ∙ ap₂ (λ (before now : Bool). gap_skipped venue number front before now) f.fits.given_up
+    g.fits.given_up)
+
+-- memory was refused before the record was given
+pub gives_none : {W : Type 0} (A : Type 0) (writing : Writing W)
+    → ((s : W) → writing.adds s [] s) → (r : CaptureRecord) (old new : NormalisedVenues) (w : W)
+    (fault : BookFault) → new.output ≡ old.output
+    → GivesNext {A = A} writing r old new w w (Err (Book fault))
+gives_none A writing adds_none r old new w fault output = λ t records left at f is next. record {
+  taken = [];
+  text = [];
+  left = records;
+  after = at;
+  normalises = all_none old.settings records at;
+  is_left = tt;
+  is_after = tt;
+  puts = rw output (puts_nothing writing adds_none w old.output.page.page);
+}
 
 -- a record that is put in is the next one before another
 pub put_in_first : {W A : Type 0} (writing : Writing W) (r : TimedRecord)
@@ -466,20 +497,6 @@ next_noted {A = A} {B = B} writing r old mid new from to a b noted x =
     (λ p g. (noted.follows t.time p g.0, g.1 ∙ sym noted.latest)) (Ok a)
     (x t records left at f is next))
 
--- a note that has no memory after a record that was given
-pub next_unnoted : {W A : Type 0} (B : Type 0) (writing : Writing W) (r : CaptureRecord)
-    (old mid new : NormalisedVenues) (from to : W) (a : A) (fault : BookFault) → IsNoted mid new
-    → GivesNext writing r old mid from to (Ok a)
-    → GivesNext {A = B} writing r old new from to (Err (Book fault))
-next_unnoted {A = A} B writing r old mid new from to a fault noted x =
-    λ t records left at f is next.
-    subst (λ (o : OutputPackets). RunsOn {A = B} writing old.settings records at (λ l. l ≡ left)
-    (FollowsAt new t.time) from to old.output.page.page o.page.page (Err (Book fault)))
-    (sym noted.output)
-    (book_runs B writing old.settings records at (λ l. l ≡ left) (λ l. l ≡ left)
-    (FollowsAt mid t.time) (FollowsAt new t.time) from to old.output.page.page
-    mid.output.page.page a fault (x t records left at f is next))
-
 -- a note after a record that was taken, at its time
 pub too_noted : {W A B : Type 0} (writing : Writing W) (r : TimedRecord)
     (old mid new : NormalisedVenues) (from to : W) (a : A) (b : B) → IsNoted mid new
@@ -503,9 +520,9 @@ same_then old mid new a b =
 pub noted_at : (old new : NormalisedVenues) (place : ℕ) (v w : NormalisedVenue)
     → slice_get old.venues.items place ≡ Some v
     → new.venues.items ≡ slice_set old.venues.items place w → new.settings ≡ old.settings
-    → new.latest ≡ old.latest → new.output ≡ old.output → IsSameVenue v w
-    → IsNoted old new
-noted_at old new place v w here set settings latest output same = record {
+    → new.latest ≡ old.latest → new.output ≡ old.output
+    → new.given_up.items ≡ old.given_up.items → IsSameVenue v w → IsNoted old new
+noted_at old new place v w here set settings latest output gaps same = record {
   same = record {
     settings = settings;
     count = ap length set ∙ length-set old.venues.items place w;
@@ -521,6 +538,7 @@ noted_at old new place v w here set settings latest output same = record {
     latest = latest ∙ f.latest;
     form = ap (λ (o : OutputPackets). o.page.form) output ∙ f.form
         ∙ ap (λ (feed : NormalisedFeed). feed.form) (sym settings);
+    given_up = gaps ∙ f.given_up;
   };
 }
 
@@ -533,6 +551,8 @@ module _ {W : Type 0} (writing : Writing W) (old new : NormalisedVenues)
     (items : new.venues.items ≡ old.venues.items) (settings : new.settings ≡ old.settings)
     (latest : new.latest ≡ old.latest)
     (form : new.output.page.form ≡ old.output.page.form)
+    (gaps : new.given_up.items ≡ old.given_up.items)
+    (none : (h : NormalisedHistory) → gap_given_up r h h ≡ [])
     (at_venue : (h : NormalisedHistory) → old.output.page.form ≡ old.settings.form
     → NormalisesAt old.settings old.latest r h [] text h) where
   kept_next : (t : TimedRecord) (at : NormalisedPoint) → FollowsRun old t.time at → t.what ≡ r
@@ -541,9 +561,9 @@ module _ {W : Type 0} (writing : Writing W) (old new : NormalisedVenues)
   kept_next t at f is =
       let n = f.venues.count in
       let h = get_within at.venues (record_venue r) (omega (arith, n, within)) in (
-        point_with at (record_venue r) old.latest h.0,
+        point_with at r old.latest h.0 h.0,
         subst (λ (what : CaptureRecord). NormalisesRecord old.settings (record t { what = what }) at
-            [] text (point_with at (record_venue r) old.latest h.0)) (sym is) (record {
+            [] text (point_with at r old.latest h.0 h.0)) (sym is) (record {
               before = h.0;
               after = h.0;
               at = h.1;
@@ -551,6 +571,7 @@ module _ {W : Type 0} (writing : Writing W) (old new : NormalisedVenues)
                   f.latest (at_venue h.0 f.form);
               venues = refl;
               latest = f.latest;
+              given_up = refl;
             }),
         (
           record {
@@ -563,6 +584,8 @@ module _ {W : Type 0} (writing : Writing W) (old new : NormalisedVenues)
             latest = latest ∙ f.latest ∙ sym (time_again at.latest t.time)
                 ∙ ap (λ (l : ℕ). time_after l t.time) (sym f.latest);
             form = form ∙ f.form ∙ ap (λ (feed : NormalisedFeed). feed.form) (sym settings);
+            given_up = gaps ∙ f.given_up ∙ sym (append-nil at.given_up)
+                ∙ ap (λ (l : List VenueGap). at.given_up ++ l) (sym (none h.0));
           },
           sym latest,
         ),
@@ -615,26 +638,29 @@ pub passed_next : {W : Type 0} (writing : Writing W) (old new : NormalisedVenues
     (on : Bool) (from to : W) (a : Unit {0}) → venue < length old.venues.items
     → new.venues.items ≡ old.venues.items → new.settings ≡ old.settings
     → new.latest ≡ old.latest → new.output.page.form ≡ old.output.page.form
+    → new.given_up.items ≡ old.given_up.items
     → PutsText writing from to old.output.page.page
     (record_text old.output.page.form (self_help_record venue on)) new.output.page.page
     → GivesNext writing (self_help_record venue on) old new from to (Ok a)
-passed_next writing old new venue on from to a within items settings latest form puts =
+passed_next writing old new venue on from to a within items settings latest form gaps puts =
     kept_gives writing old new (self_help_record venue on) from to
     (record_text old.output.page.form (self_help_record venue on)) within items settings latest
-    form (help_at old venue on) a puts
+    form gaps (λ h. refl) (help_at old venue on) a puts
 
 pub passing_failed : {W : Type 0} (writing : Writing W) (old new : NormalisedVenues) (venue : ℕ)
     (on : Bool) (from to : W) (stop : SinkStop) → venue < length old.venues.items
     → new.venues.items ≡ old.venues.items → new.settings ≡ old.settings
     → new.latest ≡ old.latest → new.output.page.form ≡ old.output.page.form
+    → new.given_up.items ≡ old.given_up.items
     → Wrote writing.adds from old.output.page.page to
     → writing.failures to ≡ writing.failures from + 1
     → GivesNext {A = Unit {0}} writing (self_help_record venue on) old new from to
     (Err (Sink stop))
-passing_failed writing old new venue on from to stop within items settings latest form part failed =
+passing_failed writing old new venue on from to stop within items settings latest form gaps part
+    failed =
     kept_fails writing old new (self_help_record venue on) from to
     (record_text old.output.page.form (self_help_record venue on)) within items settings latest
-    form (help_at old venue on) (Unit {0}) stop
+    form gaps (λ h. refl) (help_at old venue on) (Unit {0}) stop
     (wrote_longer writing.adds from to old.output.page.page
     (record_text old.output.page.form (self_help_record venue on)) part) failed
 
@@ -647,7 +673,7 @@ pub bad_taken : {W : Type 0} (writing : Writing W) → ((s : W) → writing.adds
 bad_taken writing adds_none old new venue line bytes fault w a within has noted =
     next_noted writing (datagram_record venue line bytes) old old new w w a a noted
     (kept_gives writing old old (datagram_record venue line bytes) w w [] within refl refl refl
-    refl
+    refl refl (λ h. refl)
     (λ h form. inl (record {
       fault = fault;
       has = has;
@@ -675,8 +701,9 @@ stop_first A B writing r old new from to stop x = λ at f.
 -- the latest time is that of a record, and the run follows the same point
 pub follows_later : (old new : NormalisedVenues) (time : Option ℕ) (at : NormalisedPoint)
     → new.venues.items ≡ old.venues.items → new.settings ≡ old.settings → new.output ≡ old.output
-    → new.latest ≡ time_after old.latest time → FollowsRun old None at → FollowsRun new time at
-follows_later old new time at venues settings output latest f = record {
+    → new.latest ≡ time_after old.latest time → new.given_up.items ≡ old.given_up.items
+    → FollowsRun old None at → FollowsRun new time at
+follows_later old new time at venues settings output latest gaps f = record {
   venues = subst (λ (feed : NormalisedFeed). FollowHistories feed new.venues.items at.venues)
       (sym settings)
       (subst (λ (vs : List NormalisedVenue). FollowHistories old.settings vs at.venues)
@@ -684,6 +711,7 @@ follows_later old new time at venues settings output latest f = record {
   latest = latest ∙ ap (λ (l : ℕ). time_after l time) f.latest;
   form = ap (λ (o : OutputPackets). o.page.form) output ∙ f.form
       ∙ ap (λ (feed : NormalisedFeed). feed.form) (sym settings);
+  given_up = gaps ∙ f.given_up;
 }
 
 -- a record was taken at its time, and the run follows the point after it
@@ -691,38 +719,25 @@ pub timed_taken : {W A : Type 0} (writing : Writing W) (r : TimedRecord)
     (old start new : NormalisedVenues) (from to : W) (result : Result A VenueStop)
     → start.venues.items ≡ old.venues.items → start.settings ≡ old.settings
     → start.output ≡ old.output → start.latest ≡ time_after old.latest r.time
+    → start.given_up.items ≡ old.given_up.items
     → TakesToo writing r start new from to result
     → (at : NormalisedPoint) → FollowsRun old None at
     → RunsOn writing old.settings (r ∷ []) at (λ l. l ≡ []) (FollowsRun new None) from to
     old.output.page.page new.output.page.page result
-timed_taken writing r old start new from to result venues settings output latest takes at f =
+timed_taken writing r old start new from to result venues settings output latest gaps takes at f =
     subst (λ (feed : NormalisedFeed). RunsOn writing feed (r ∷ []) at (λ l. l ≡ [])
     (FollowsRun new None) from to old.output.page.page new.output.page.page result) settings
     (subst (λ (o : OutputPackets). RunsOn writing start.settings (r ∷ []) at (λ l. l ≡ [])
     (FollowsRun new None) from to o.page.page new.output.page.page result) output
     (runs_weaker writing start.settings (r ∷ []) at (λ l. l ≡ []) (FollowsAt new r.time)
     (FollowsRun new None) from to start.output.page.page new.output.page.page
-    (λ p x. record { venues = x.0.venues; latest = sym x.1; form = x.0.form }) result
-    (takes at (follows_later old start r.time at venues settings output latest f))))
-
--- a note beside the venues
-pub noted_beside : (old new : NormalisedVenues) → new.venues.items ≡ old.venues.items
-    → new.settings ≡ old.settings → new.latest ≡ old.latest → new.output ≡ old.output
-    → IsNoted old new
-noted_beside old new venues settings latest output = record {
-  same = record { settings = settings; count = ap length venues };
-  latest = latest;
-  output = output;
-  follows = λ time at f. record {
-    venues = subst (λ (feed : NormalisedFeed). FollowHistories feed new.venues.items at.venues)
-        (sym settings)
-        (subst (λ (vs : List NormalisedVenue). FollowHistories old.settings vs at.venues)
-        (sym venues) f.venues);
-    latest = latest ∙ f.latest;
-    form = ap (λ (o : OutputPackets). o.page.form) output ∙ f.form
-        ∙ ap (λ (feed : NormalisedFeed). feed.form) (sym settings);
-  };
-}
+    (λ p x. record {
+      venues = x.0.venues;
+      latest = sym x.1;
+      form = x.0.form;
+      given_up = x.0.given_up;
+    }) result
+    (takes at (follows_later old start r.time at venues settings output latest gaps f))))
 
 -- a stop at a record that was given is one whatever the answer would be
 pub next_stop : {W : Type 0} (A B : Type 0) (writing : Writing W) (r : CaptureRecord)

@@ -1,14 +1,18 @@
 -- What is kept of a run. Cited by private clauses alone.
-use Rattle.std.specs.Prelude.{◌≡◌, ⊤, ℕ, ◌+◌, List, [], ◌∷◌, ◌++◌, length, Option, Some, None, Result, Ok, Err, slice_get}
+use Rattle.std.specs.Prelude.{◌≡◌, ⊤, ℕ, ◌+◌, Bool, true, false, List, [], ◌∷◌, ◌++◌, length, Option, Some, None, Result, Ok, Err, slice_get}
 use Rattle.feed_types.specs.declared.item.Numbered.{Numbered}
 use Rattle.line_arbiter.specs.Histories.{names_of}
+use Rattle.line_arbiter.specs.Packets.{Input}
+use Rattle.line_arbiter.specs.Skips.{MaySkip}
+use Rattle.event_sinks.specs.declared.venue_gap.VenueGap.{VenueGap}
 use Rattle.capture_records.specs.Capture.{CaptureRecord}
 use Rattle.capture_records.specs.Formats.{TimedRecord}
 use Rattle.text_out.specs.Devices.{Writing, Wrote}
 use Rattle.venue_normaliser.specs.Outputs.{IsPutOutFrom}
-use Rattle.venue_normaliser.specs.States.{FitsOpened}
+use Rattle.venue_normaliser.specs.States.{FitsOpened, NormaliserState}
 use Rattle.item_packets.specs.Openings.{BeginsAt, IsOpening}
 use Rattle.normalising.specs.Normalised.{GoesOnWithin, IsNewPoint, IsNewVenue, IsNormalisedNext, NormalisedHistory, NormalisedPoint, NormalisesAll, NormalisesAt, inputs_of, quoted_keys, time_after}
+use Rattle.normalising.specs.Reported.{IsReport}
 use Rattle.normalising.specs.Texts.{begun_text}
 use Rattle.normalising.specs.Writes.{PutsText}
 use Rattle.event_sinks.specs.declared.replay_stop.ReplayStop.TheVariants.{SinkFailed}
@@ -21,6 +25,7 @@ use Rattle.normalising.specs.declared.normalise_stop.NormaliseStop.TheVariants.{
 use Rattle.normalising.specs.declared.normalised_feed.NormalisedFeed.{NormalisedFeed}
 use Rattle.normalising.specs.declared.normalised_venue.NormalisedVenue.{NormalisedVenue}
 use Rattle.normalising.specs.declared.normalised_venues.NormalisedVenues.{NormalisedVenues}
+use Rattle.normalising.specs.declared.venue_report.VenueReport.{VenueReport}
 use Rattle.normalising.specs.declared.venue_stop.VenueStop.{VenueStop}
 use Rattle.normalising.specs.declared.venue_stop.VenueStop.TheVariants.{Book, Sink}
 
@@ -83,6 +88,29 @@ TakesAtVenue writing feed time place r old v from to waited waits (Err (Sink sto
 TakesAtVenue writing feed time place r old v from to waited waits (Err (Book fault)) =
     (to ≡ from) × (waits ≡ waited)
 
+-- By the answer a gap was given up by a skip to this number, or the normaliser is as it was.
+abbrev pub SkippedWhere : List Input → (number : ℕ) → (old new : NormaliserState) → Bool → Type 0
+SkippedWhere packets number old new true = MaySkip packets number × (new.has_given_up ≡ true)
+SkippedWhere packets number old new false = new ≡ old
+
+-- a gap that is noted, if there is one
+abbrev pub gap_noted : Option VenueGap → List VenueGap
+gap_noted None = []
+gap_noted (Some gap) = gap ∷ []
+
+-- whatever the venue follows, this is the report of that
+abbrev pub ReportsVenue : NormalisedVenue → VenueReport → Type 0
+ReportsVenue v report =
+    (feed : NormalisedFeed) (place : ℕ) (h : NormalisedHistory) → FollowsVenue feed place v h
+    → IsReport feed place h report
+
+-- each venue has its report
+pub record ReportVenues (vs : List NormalisedVenue) (reports : List VenueReport) : Type 0 where
+  pub count : length reports ≡ length vs
+  pub each : (place : ℕ) (v : NormalisedVenue) (report : VenueReport)
+      → slice_get vs place ≡ Some v → slice_get reports place ≡ Some report
+      → ReportsVenue v report
+
 -- each venue follows its history
 pub record FollowHistories (feed : NormalisedFeed) (vs : List NormalisedVenue)
     (hs : List NormalisedHistory) : Type 0 where
@@ -98,6 +126,7 @@ pub record FollowsRun (run : NormalisedVenues) (time : Option ℕ) (at : Normali
   pub venues : FollowHistories run.settings run.venues.items at.venues
   pub latest : run.latest ≡ time_after at.latest time
   pub form : run.output.page.form ≡ run.settings.form
+  pub given_up : run.given_up.items ≡ at.given_up
 
 -- these venues, to which nothing was given, follow these histories
 pub record FollowNew (feed : NormalisedFeed) (vs : List NormalisedVenue) : Type 0 where

@@ -2,6 +2,7 @@ pub mod Carried
 pub mod Keeping
 pub mod Normalisations
 pub mod Normalised
+pub mod Reported
 pub mod OfSession
 pub mod Sendings
 pub mod Texts

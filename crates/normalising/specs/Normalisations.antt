@@ -18,10 +18,12 @@ abbrev pub venues_normalised : NormalisedFeed → ℕ
 venues_normalised feed = length feed.sessions.now
 
 -- Some calls read records and then a rest of this kind; the reader came to its last state so; the
--- run took all of the records but these, and the writer the text of what it took, so.
+-- run took all of the records but these, up to a point of this kind, and the writer the text of
+-- what it took, so.
 pub record HasNormalised {R S F : Type 0} (reading : Reading R) (parsing : Parsing S F)
     (feed : NormalisedFeed) (from : R) (start finish : S) (IsRest : List ℕ → Type 0)
     (CameTo : ℕ → R → Type 0) (IsLeft : List TimedRecord → Type 0)
+    (IsAfter : NormalisedPoint → Type 0)
     (IsWritten : NormalisedPoint → List TimedRecord → List ℕ → Type 0) : Type 0 where
   pub records : List TimedRecord
   pub calls : ℕ
@@ -39,6 +41,7 @@ pub record HasNormalised {R S F : Type 0} (reading : Reading R) (parsing : Parsi
   pub after : NormalisedPoint
   pub normalises : NormalisesAll feed records first taken text left after
   pub is_left : IsLeft left
+  pub is_after : IsAfter after
   pub written : IsWritten after left (begun_text feed.form ++ text)
 
 -- all records were taken
@@ -72,56 +75,58 @@ RefusesSnapshot feed venue resumes.TooFewNumbers =
 RefusesSnapshot feed venue (resumes.Book fault) = ⊤
 RefusesSnapshot feed venue resumes.HasBegun = ⊥
 
--- The results of a run by at most `turns` calls, by its outcome.
+-- The results of a run by at most `turns` calls, by its outcome. The point that it came to is of
+-- this kind, unless the writer or a book ended it.
 abbrev pub AnswersNormalising : {R S F W : Type 0} (reading : Reading R) (parsing : Parsing S F)
     (writing : Writing W) (feed : NormalisedFeed) (turns : ℕ) (from to : R) (start finish : S)
-    (before after : W) → Result (Unit {0}) (NormaliseStop F) → Type 0
-AnswersNormalising reading parsing writing feed turns from to start finish before after
+    (before after : W) → (IsAfter : NormalisedPoint → Type 0)
+    → Result (Unit {0}) (NormaliseStop F) → Type 0
+AnswersNormalising reading parsing writing feed turns from to start finish before after IsAfter
     (Ok done) =
     HasNormalised reading parsing feed from start finish
     (λ rest. (rest ≡ []) × parsing.is_whole finish)
     (λ calls mid. (calls + 1 ≤ turns) × reading.ends mid to)
-    IsNoneLeft (TookText writing before after)
-AnswersNormalising reading parsing writing feed turns from to start finish before after
+    IsNoneLeft IsAfter (TookText writing before after)
+AnswersNormalising reading parsing writing feed turns from to start finish before after IsAfter
     (Err (Replay (Bad fault))) =
     HasNormalised reading parsing feed from start finish
     (λ rest. parsing.is_bad finish rest fault) (λ calls mid. mid ≡ to)
-    IsNoneLeft (TookText writing before after)
-AnswersNormalising reading parsing writing feed turns from to start finish before after
+    IsNoneLeft IsAfter (TookText writing before after)
+AnswersNormalising reading parsing writing feed turns from to start finish before after IsAfter
     (Err (Replay Short)) =
     HasNormalised reading parsing feed from start finish
     (IsCutOff parsing finish) (λ calls mid. reading.ends mid to)
-    IsNoneLeft (TookText writing before after)
-AnswersNormalising reading parsing writing feed turns from to start finish before after
+    IsNoneLeft IsAfter (TookText writing before after)
+AnswersNormalising reading parsing writing feed turns from to start finish before after IsAfter
     (Err (Replay ReadFailed)) =
     HasNormalised reading parsing feed from start finish
     (parsing.wants finish) (λ calls mid. reading.fails mid to)
-    IsNoneLeft (TookText writing before after)
+    IsNoneLeft IsAfter (TookText writing before after)
     × (reading.failures to ≡ reading.failures from + 1)
-AnswersNormalising reading parsing writing feed turns from to start finish before after
+AnswersNormalising reading parsing writing feed turns from to start finish before after IsAfter
     (Err (Replay TooManyTurns)) =
     HasNormalised reading parsing feed from start finish
     (parsing.wants finish) (λ calls mid. (calls ≡ turns) × (mid ≡ to))
-    IsNoneLeft (TookText writing before after)
-AnswersNormalising reading parsing writing feed turns from to start finish before after
+    IsNoneLeft IsAfter (TookText writing before after)
+AnswersNormalising reading parsing writing feed turns from to start finish before after IsAfter
     (Err (Replay SinkFailed)) =
     HasNormalised reading parsing feed from start finish
     (λ rest. ⊤) (λ calls mid. mid ≡ to)
-    (λ left. ⊤) (TookPart writing feed before after)
+    (λ left. ⊤) (λ at. ⊤) (TookPart writing feed before after)
     × (writing.failures after ≡ writing.failures before + 1)
-AnswersNormalising reading parsing writing feed turns from to start finish before after
+AnswersNormalising reading parsing writing feed turns from to start finish before after IsAfter
     (Err (Replay NoMemory)) =
     IsNotBegun from to start finish before after
-AnswersNormalising reading parsing writing feed turns from to start finish before after
+AnswersNormalising reading parsing writing feed turns from to start finish before after IsAfter
     (Err (Replay JournalFull)) = ⊥
-AnswersNormalising reading parsing writing feed turns from to start finish before after
+AnswersNormalising reading parsing writing feed turns from to start finish before after IsAfter
     (Err (Fault fault)) =
     IsNotBegun from to start finish before after
-AnswersNormalising reading parsing writing feed turns from to start finish before after
+AnswersNormalising reading parsing writing feed turns from to start finish before after IsAfter
     (Err (Snapshot venue fault)) =
     IsNotBegun from to start finish before after × RefusesSnapshot feed venue fault
-AnswersNormalising reading parsing writing feed turns from to start finish before after
+AnswersNormalising reading parsing writing feed turns from to start finish before after IsAfter
     (Err (Book venue fault)) =
     HasNormalised reading parsing feed from start finish
     (λ rest. ⊤) (λ calls mid. mid ≡ to)
-    (λ left. ⊤) (TookText writing before after)
+    (λ left. ⊤) (λ at. ⊤) (TookText writing before after)

@@ -1,10 +1,11 @@
 -- A run over records: what each venue's normaliser is given of them, what is put out of it, and the
 -- text of the packets that carry that.
-use Rattle.std.specs.Prelude.{◌≡◌, ◌⊎◌, ℕ, ◌<◌, nat_lt, List, [], ◌∷◌, ◌++◌, length, map, flat_map, Contains, Option, Some, None, IsSome, Result, Ok, Err, slice_get, slice_index_or, slice_set, if◌then◌else◌}
+use Rattle.std.specs.Prelude.{◌≡◌, ◌⊎◌, ℕ, ◌+◌, ◌-◌, ◌<◌, ◌&&◌, not, Bool, nat_lt, List, [], ◌∷◌, ◌++◌, length, map, flat_map, Contains, Option, Some, None, IsSome, Result, Ok, Err, slice_get, slice_index_or, slice_set, if◌then◌else◌}
 use Rattle.feed_types.specs.declared.item.Item.{Item}
 use Rattle.feed_types.specs.declared.item.Numbered.{Numbered}
 use Rattle.feed_types.specs.declared.line.LineId.{LineId}
 use Rattle.feed_types.specs.Symbols.{key_of}
+use Rattle.event_sinks.specs.declared.venue_gap.VenueGap.{VenueGap}
 use Rattle.mold_packet.specs.declared.fault.PacketFault.{PacketFault}
 use Rattle.mold_packet.specs.Content.{Content, Spells}
 use Rattle.mold_packet.specs.Faults.{HasFault}
@@ -17,11 +18,13 @@ use Rattle.line_arbiter.specs.Outcomes.{IsOutcome}
 use Rattle.line_arbiter.specs.Packets.{Input, Skip, arrival_of, end_of}
 use Rattle.line_arbiter.specs.Renewals.{IsRenewal}
 use Rattle.line_arbiter.specs.Skips.{AllSent, IsSkip}
+use Rattle.line_arbiter.specs.Streams.{front_of}
 use Rattle.run_settings.specs.declared.next_session.NextSession.{NextSession}
 use Rattle.run_settings.specs.declared.skip_rule.SkipRule.{SkipRule}
 use Rattle.run_settings.specs.declared.skip_rule.SkipRule.TheVariants.{After, Gaps}
 use Rattle.capture_records.specs.Capture.{CaptureRecord, datagram_record, record_venue, renewal_record, self_help_record, skip_record}
 use Rattle.capture_records.specs.Formats.{TimedRecord, timed_record}
+use Rattle.venue_normaliser.specs.Brought.{has_skip_past}
 use Rattle.venue_normaliser.specs.Ends.{read_as}
 use Rattle.venue_normaliser.specs.Outputs.{AreShown, IsPutOutFrom, Opening, from_start, opened_at}
 use Rattle.venue_normaliser.specs.Snapshots.{SnapshotContent}
@@ -170,12 +173,39 @@ NormalisesAt feed time (renewal_record venue name) old rest text new =
 NormalisesAt feed time (self_help_record venue on) old rest text new =
     PassesOn feed (self_help_record venue on) old text new
 
+-- ---- gaps that are given up
+
+-- a gap of the present session was given up, so that nothing past it is put out
+abbrev pub has_ended_early : NormalisedHistory → Bool
+has_ended_early h = has_skip_past h.opening.number (inputs_of h)
+
+-- the gap after this front that a skip to a number gives up, where a gap was given up after it and
+-- none before it
+abbrev pub gap_skipped : (venue number front : ℕ) → (before after : Bool) → List VenueGap
+gap_skipped venue number front before after =
+    if not before && after
+    then record {
+      venue = venue;
+      messages = record { first = front + 1; count = number - (front + 1) };
+    } ∷ []
+    else []
+
+-- the gap that a record gives up: of each session the first one that a skip does
+abbrev pub gap_given_up : CaptureRecord → (old new : NormalisedHistory) → List VenueGap
+gap_given_up (skip_record venue number) old new =
+    gap_skipped venue number (front_of (inputs_of old)) (has_ended_early old)
+    (has_ended_early new)
+gap_given_up (datagram_record venue line bytes) old new = []
+gap_given_up (renewal_record venue name) old new = []
+gap_given_up (self_help_record venue on) old new = []
+
 -- ---- all venues
 
--- each venue, and the time of the latest record that has one
+-- each venue, the time of the latest record that has one, and the gaps that were given up
 pub record NormalisedPoint : Type 0 where
   pub venues : List NormalisedHistory
   pub latest : ℕ
+  pub given_up : List VenueGap
 
 -- the snapshot of a venue, if it has one
 abbrev pub snapshot_at : List (Option SnapshotContent) → ℕ → Option SnapshotContent
@@ -193,6 +223,7 @@ pub record IsNewPoint (feed : NormalisedFeed) (at : NormalisedPoint) : Type 0 wh
   pub each : (place : ℕ) (h : NormalisedHistory) → slice_get at.venues place ≡ Some h
       → IsNewVenue feed place h
   pub latest : at.latest ≡ 0
+  pub given_up : at.given_up ≡ []
 
 -- The time of what is written of a record: that of the latest record, up to it, which has one that
 -- a savefile can say.
@@ -209,6 +240,7 @@ pub record NormalisesRecord (feed : NormalisedFeed) (r : TimedRecord) (old : Nor
   pub normalises : NormalisesAt feed (time_after old.latest r.time) r.what before rest text after
   pub venues : new.venues ≡ slice_set old.venues (record_venue r.what) after
   pub latest : new.latest ≡ time_after old.latest r.time
+  pub given_up : new.given_up ≡ old.given_up ++ gap_given_up r.what before after
 
 -- ---- what is put in
 

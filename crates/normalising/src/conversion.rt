@@ -1,17 +1,19 @@
 //! A capture of ITCH lines as one of this project's own messages.
 ghost use Rattle.text_out.specs.Members.{reading_of, writing_of};
-ghost use Rattle.std.specs.Prelude.{◌≡◌, ◌≤◌, [], Err, length};
-ghost use Rattle.normalising.specs.Keeping.{IsNewRun, EndsRun, stop_at_begin};
+ghost use Rattle.std.specs.Prelude.{◌≡◌, ◌≤◌, [], Err, None, length, vec_capacity};
+ghost use Rattle.normalising.specs.Keeping.{EndsRun, FollowsRun, IsNewRun, IsSameRun, ReportVenues, stop_at_begin};
 ghost use Rattle.normalising.specs.Normalisations.{AnswersNormalising};
+ghost use Rattle.normalising.specs.Reported.{AreReported};
 
 use crate::begin_fault::BeginFault;
 use crate::normalise_stop::NormaliseStop;
 use crate::normalised_feed::NormalisedFeed;
+use crate::normalised_venue::NormalisedVenue;
 use crate::normalised_venues::NormalisedVenues;
-use crate::venue_report::{GivenUp, VenueReport};
+use crate::venue_report::VenueReport;
 use crate::venue_stop::VenueStop;
 use capture_records::{CAPTURE_ROOM, ReadBuffer, ReadStep, RecordFormat, Step, is_complete};
-use event_sinks::ReplayStop;
+use event_sinks::{ReplayStop, VenueGap};
 use std::alloc::Global;
 use text_out::{CaptureIn, TextOut};
 
@@ -19,8 +21,8 @@ use text_out::{CaptureIn, TextOut};
 #[derive(Drop)]
 pub struct Normalised<F> {
     pub outcome: Result<(), NormaliseStop<F>>,
-    /// What was given up, in the order of its giving up.
-    pub given_up: Vec<GivenUp>,
+    /// The gaps that were given up, in that order. Each ended what is put out of its session.
+    pub given_up: Vec<VenueGap>,
     /// The reports of all venues, in their order; none where the run wasn't begun.
     pub reports: Vec<VenueReport>,
 }
@@ -32,8 +34,9 @@ fn stop_at<F, W: TextOut>(
     stop: VenueStop,
     writer: &mut W,
 ) -> NormaliseStop<F>
-    ensures { EndsRun (writing_of W.TextOut)
+    ensures ends { EndsRun (writing_of W.TextOut)
         venues.old.output.page.page writer.old writer.new stop result }
+    ensures same { IsSameRun venues.old venues.new }
 {
     match stop {
         VenueStop::Sink(_) => NormaliseStop::Replay(ReplayStop::SinkFailed),
@@ -58,11 +61,12 @@ fn read_all<R: CaptureIn, F: RecordFormat, W: TextOut>(
     requires new { IsNewRun venues.old.settings venues.old }
     requires unread { unread.old ≡ [] }
     requires of_venues { F.venues format.old ≡ length venues.old.settings.sessions.now }
-    ensures { AnswersNormalising
+    ensures answers { AnswersNormalising
         (reading_of R.CaptureIn)
         (record { reads = F.reads; wants = F.wants; is_bad = F.is_bad; is_whole = F.is_whole })
         (writing_of W.TextOut) venues.old.settings turns reader.old reader.new format.old format.new
-        writer.old writer.new result }
+        writer.old writer.new (FollowsRun venues.new None) result }
+    ensures same { IsSameRun venues.old venues.new }
 {
     let mut left = turns;
     'pieces: loop {
@@ -116,12 +120,26 @@ fn refused<F>(alloc: Global, stop: NormaliseStop<F>) -> Normalised<F>
     }
 }
 
+/// Puts the reports of the venues into `reports`, in their order. There is memory for them.
+fn report_each(venues: &[NormalisedVenue], reports: &mut Vec<VenueReport>)
+    requires empty { reports.old.items ≡ [] }
+    requires room { length venues.now ≤ vec_capacity reports.old }
+    ensures { ReportVenues venues.now reports.new.items }
+{
+    for venue in venues {
+        reports.push_reserved(venue.report());
+    }
+}
+
 /// Reads a capture of ITCH lines to its end, by at most `turns` calls of the reader, and writes
 /// what becomes ready as packets of the same sessions with the same numbers. What is ready is
 /// written before each call of the reader.
 ///
 /// A venue that has a snapshot begins its first session with it: what the snapshot shows is written
 /// with what the first packet or skip of the venue makes ready, before that.
+///
+/// The gaps that were given up, and the reports of the venues, are those of what was taken, unless
+/// the writer failed or a book ended the run.
 ///
 /// An error of the input or the writer ends the run as it ends a replay. A book that has no room
 /// ends it, too, with the venue. In each case but that of the writer, what was ready before is
@@ -140,8 +158,12 @@ pub fn normalise<R: CaptureIn, F: RecordFormat, W: TextOut>(
         (reading_of R.CaptureIn)
         (record { reads = F.reads; wants = F.wants; is_bad = F.is_bad; is_whole = F.is_whole })
         (writing_of W.TextOut) settings.now turns reader.old reader.new format.old format.new
-        writer.old writer.new result.outcome }
+        writer.old writer.new
+        (AreReported settings.now result.given_up.items result.reports.items) result.outcome }
 {
+    let Ok(mut reports) = Vec::with_capacity(alloc, settings.sessions.len()) else {
+        return refused(alloc, NormaliseStop::Replay(ReplayStop::NoMemory));
+    };
     let mut venues = match NormalisedVenues::new(alloc, settings) {
         Ok(venues) => venues,
         Err(fault) => return refused(alloc, stop_of(fault)),
@@ -150,8 +172,7 @@ pub fn normalise<R: CaptureIn, F: RecordFormat, W: TextOut>(
         return refused(alloc, NormaliseStop::Replay(ReplayStop::NoMemory));
     };
     let outcome = read_all(&mut venues, &mut unread, turns, format, reader, writer);
-    let mut reports = Vec::new(alloc);
-    venues.report(&mut reports);
+    report_each(venues.venues.as_slice(), &mut reports);
     let NormalisedVenues { given_up, .. } = venues;
     Normalised {
         outcome,

@@ -13,7 +13,8 @@
 //! [`what_a_run_sends_is_the_session`] that these are packets of the session whose item n is the
 //! one that message n makes.
 //!
-//! A venue's first session may begin with a snapshot (`BeginsWith`).
+//! A venue's first session may begin with a snapshot (`BeginsWith`). The gaps that are given up and
+//! the reports of the venues are those of what was taken (`AreReported`).
 //!
 //! Begin at `specs/Carried.antt`, then `specs/Normalised.antt`, `specs/Normalisations.antt` and
 //! `specs/Sendings.antt`; `normalised_venue.rt` has a venue, `normalised_venues.rt` all of them,
@@ -46,4 +47,4 @@ pub use normalised_feed::NormalisedFeed;
 pub use output_form::OutputForm;
 pub use packet_counts::PacketCounts;
 pub use packet_origin::PacketOrigin;
-pub use venue_report::{GivenUp, MissingRun, VenueReport};
+pub use venue_report::VenueReport;

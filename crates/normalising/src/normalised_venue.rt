@@ -1,14 +1,16 @@
 //! A venue whose lines are normalised.
 ghost use Rattle.text_out.specs.Members.{writing_of};
-ghost use Rattle.std.specs.Prelude.{◌≡◌, ℕ, ◌≤◌, List, [], IfErr, IfOk, IsErrOf, MatchBool, OnOk, Some, slice_index_or};
+ghost use Rattle.std.specs.Prelude.{◌≡◌, ℕ, ◌+◌, ◌<◌, ◌≤◌, List, [], true, IfErr, IfOk, IsErrOf, MatchBool, OnOk, Some, slice_index_or};
 ghost use Rattle.capture_records.specs.Capture.{datagram_record, renewal_record, skip_record};
 ghost use Rattle.line_arbiter.specs.Packets.{Input};
+ghost use Rattle.line_arbiter.specs.Streams.{front_of};
 ghost use Rattle.mold_packet.specs.Content.{Spells};
 ghost use Rattle.venue_normaliser.specs.Outputs.{Opening};
 ghost use Rattle.venue_normaliser.specs.States.{FitsOpened, FitsPackets, IsNewNormaliser, ShowsTooMuch};
 ghost use Rattle.normalising.specs.Carried.{RunsFrom, last_put};
-ghost use Rattle.normalising.specs.Keeping.{FollowsNew, FollowsVenue, IsSameVenue, TakesAtVenue};
-ghost use Rattle.normalising.specs.Normalised.{NormalisedHistory, quoted_keys, snapshot_at};
+ghost use Rattle.normalising.specs.Keeping.{FollowsNew, FollowsVenue, IsSameVenue, ReportsVenue, SkippedWhere, TakesAtVenue, gap_noted};
+ghost use Rattle.normalising.specs.Normalised.{NormalisedHistory, gap_skipped, quoted_keys, snapshot_at};
+ghost use Rattle.normalising.specs.Reported.{standing_gap};
 ghost use Rattle.normalising.specs.Writes.{PutsPackets, StopsPut, origin_of};
 ghost use Rattle.normalising.specs.declared.normalised_feed.NormalisedFeed.{NormalisedFeed};
 
@@ -16,10 +18,11 @@ use crate::output_packets::OutputPackets;
 use crate::packet_counts::PacketCounts;
 use crate::packet_origin::PacketOrigin;
 use crate::standing_since::StandingSince;
-use crate::venue_report::{GivenUp, MissingRun, VenueReport};
+use crate::venue_report::VenueReport;
 use crate::venue_stop::VenueStop;
 use capture_writing::CaptureTime;
-use feed_types::{LineId, Numbered, SessionName};
+use event_sinks::VenueGap;
+use feed_types::{LineId, MissingRange, Numbered, SessionName, VenueId};
 use itch_book::BookFault;
 use line_arbiter::{LineFault, Outcome};
 use mold_packet::{Body, Kind, Packet};
@@ -59,6 +62,31 @@ fn is_none_ready(items: &[Numbered]) -> bool
 /// Returns whether an answer is that to a heartbeat.
 fn is_heartbeat(answer: &Result<Outcome, LineFault>) -> bool {
     matches!(answer, Ok(Outcome::Heartbeat))
+}
+
+/// Returns the gap after a front that a skip to a number gave up, if it did and no gap of the
+/// session was given up before.
+fn gap_below(
+    venue: VenueId,
+    number: u64,
+    front: u64,
+    had_given_up: bool,
+    is_given_up: bool,
+) -> Option<VenueGap>
+    ensures { (is_given_up ≡ true → front + 1 < number)
+        → gap_noted result ≡ gap_skipped venue number front had_given_up is_given_up }
+{
+    if had_given_up || !is_given_up {
+        return None;
+    }
+    let first = front.saturating_add(1);
+    Some(VenueGap {
+        venue,
+        messages: MissingRange {
+            first,
+            count: number.saturating_sub(first),
+        },
+    })
 }
 
 impl NormalisedVenue {
@@ -106,19 +134,32 @@ impl NormalisedVenue {
         self.normaliser.resume(alloc, snapshot, &mut self.ready)
     }
 
-    /// Returns what is reported of the venue.
-    pub(crate) fn report(&self) -> VenueReport {
-        let venue = self.normaliser.venue();
-        let missing = match self.normaliser.gap() {
-            Some(gap) if !self.normaliser.has_given_up() => Some(MissingRun {
-                number: gap.number,
-                count: gap.count,
-            }),
-            _ => None,
+    /// Returns the gap that stands; `None` where one was given up.
+    fn missing(&self) -> Option<MissingRange>
+        ensures { (opening : Opening) (packets : List Input)
+            → FitsOpened self.now.normaliser opening packets
+            → result ≡ standing_gap self.now.normaliser.lines.session
+            self.now.normaliser.lines.window self.now.normaliser.lines.sent opening packets }
+    {
+        if self.normaliser.has_given_up() {
+            return None;
+        }
+        let Some(gap) = self.normaliser.gap() else {
+            return None;
         };
+        Some(MissingRange {
+            first: gap.number,
+            count: gap.count as u64,
+        })
+    }
+
+    /// Returns what is reported of the venue.
+    pub(crate) fn report(&self) -> VenueReport
+        ensures { ReportsVenue self.now result }
+    {
         VenueReport {
-            venue,
-            missing,
+            venue: self.normaliser.venue(),
+            missing: self.missing(),
             oddities: self.normaliser.oddities(),
             counts: self.counts,
         }
@@ -274,6 +315,9 @@ impl NormalisedVenue {
             (skip_record place number) h self.new writer.old writer.new
             output.old.page.page output.new.page.page result }
         ensures form { output.new.page.form ≡ output.old.page.form }
+        ensures given_up { IfOk result (λ was. (opening : Opening) (packets : List Input)
+            → FitsOpened self.old.normaliser opening packets
+            → SkippedWhere packets number self.old.normaliser self.new.normaliser was) }
     {
         match self.normaliser.skip_to(number, &mut self.ready)? {
             Err(_) => Ok(false),
@@ -292,24 +336,24 @@ impl NormalisedVenue {
         time: CaptureTime,
         output: &mut OutputPackets<'_>,
         writer: &mut W,
-    ) -> Result<Option<GivenUp>, VenueStop>
+    ) -> Result<Option<VenueGap>, VenueStop>
         ensures skips { (feed : NormalisedFeed) (place : ℕ) (h : NormalisedHistory)
             → FollowsVenue feed place self.old h → output.old.page.form ≡ feed.form
             → TakesAtVenue (writing_of W.TextOut) feed time place
             (skip_record place number) h self.new writer.old writer.new
             output.old.page.page output.new.page.page result }
         ensures form { output.new.page.form ≡ output.old.page.form }
+        ensures gap { IfOk result (λ gap. (opening : Opening) (packets : List Input)
+            → FitsOpened self.old.normaliser opening packets
+            → gap_noted gap ≡ gap_skipped self.old.normaliser.lines.venue number
+            (front_of packets) self.old.normaliser.has_given_up
+            self.new.normaliser.has_given_up) }
     {
-        let first = self.normaliser.status().front.saturating_add(1);
-        let was_quoted = !self.normaliser.has_given_up();
-        if self.skip_to(number, time, output, writer)? && was_quoted {
-            return Ok(Some(GivenUp {
-                venue: self.normaliser.venue(),
-                number: first,
-                count: number.saturating_sub(first),
-            }));
-        }
-        Ok(None)
+        let venue = self.normaliser.venue();
+        let front = self.normaliser.status().front;
+        let had_given_up = self.normaliser.has_given_up();
+        let is_given_up = self.skip_to(number, time, output, writer)?;
+        Ok(gap_below(venue, number, front, had_given_up, is_given_up))
     }
 
     /// Returns whether a packet lies past the window.

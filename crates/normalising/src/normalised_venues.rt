@@ -13,11 +13,10 @@ use crate::begin_fault::BeginFault;
 use crate::normalised_feed::NormalisedFeed;
 use crate::normalised_venue::NormalisedVenue;
 use crate::output_packets::OutputPackets;
-use crate::venue_report::{GivenUp, VenueReport};
 use crate::venue_stop::VenueStop;
 use capture_records::Record;
 use capture_writing::CaptureTime;
-use event_sinks::SinkStop;
+use event_sinks::{SinkStop, VenueGap};
 use feed_types::{LineId, SessionName, VenueId};
 use itch_book::BookFault;
 use mold_packet::{Packet, read_packet};
@@ -37,7 +36,7 @@ pub(crate) struct NormalisedVenues<'a> {
     pub(crate) output: OutputPackets<'a>,
     /// Which of the next sessions have begun, by their places in the list.
     begun: Vec<bool>,
-    pub(crate) given_up: Vec<GivenUp>,
+    pub(crate) given_up: Vec<VenueGap>,
     /// The time of the latest record that has one.
     pub(crate) latest: CaptureTime,
     /// The venue that was given something last.
@@ -213,20 +212,8 @@ impl<'a> NormalisedVenues<'a> {
         self.output.write(writer)
     }
 
-    /// Notes a gap that was given up.
-    fn note(&mut self, given_up: Option<GivenUp>) -> Result<(), BookFault>
-        ensures { IsNoted self.old self.new }
-    {
-        let Some(given_up) = given_up else {
-            return Ok(());
-        };
-        match self.given_up.push(given_up) {
-            Ok(()) => Ok(()),
-            Err(_) => Err(BookFault::NoMemory),
-        }
-    }
-
-    /// Gives up what is missing at a venue below a number, where it may be given up.
+    /// Gives up what is missing at a venue below a number, where it may be given up, and notes that
+    /// gap where it is the first one of the session.
     fn give_up<W: TextOut>(
         &mut self,
         venue: VenueId,
@@ -238,10 +225,15 @@ impl<'a> NormalisedVenues<'a> {
             (skip_record venue number) self.old self.new writer.old writer.new result }
         ensures same { IsSameRun self.old self.new }
     {
+        let Ok(()) = self.given_up.reserve(1) else {
+            return Err(VenueStop::Book(BookFault::NoMemory));
+        };
         self.current = venue;
         let it = &mut self.venues[venue.index()];
         let given_up = it.give_up(number, self.latest, &mut self.output, writer)?;
-        self.note(given_up)?;
+        if let Some(gap) = given_up {
+            self.given_up.push_reserved(gap);
+        }
         Ok(())
     }
 
@@ -525,15 +517,5 @@ impl<'a> NormalisedVenues<'a> {
     /// Returns the venue that was given something last, the first one where none was.
     pub(crate) fn current(&self) -> VenueId {
         self.current
-    }
-
-    /// Puts the reports of all venues after those in `reports`, in the venues' order, as far as
-    /// memory is there.
-    pub(crate) fn report(&self, reports: &mut Vec<VenueReport>) {
-        for venue in &self.venues {
-            if reports.push(venue.report()).is_err() {
-                return;
-            }
-        }
     }
 }

@@ -54,12 +54,12 @@ take_timed-requires-clause-few g c =
     let kept = c.pieces.invariant.same.count in
     omega (arith, c.requires.few, kept)
 
-pub returns-in-Err : goal.returns-in-Err
-returns-in-Err g c =
+pub returns-in-Err-clause-answers : goal.returns-in-Err-clause-answers
+returns-in-Err-clause-answers g c =
     let r = timed_record (record_of c.in-Came.record) c.in-Came.time in
     stop_answers (laws_of g) c.args.turns c.take_timed.new.self.output.page.page
     c.take_timed.new.writer c.stop_at.new.writer (λ l. l ≡ [])
-    (FollowsRun c.take_timed.new.self None) r c.in-Came.len
+    (FollowsRun c.take_timed.new.self None) (FollowsRun c.stop_at.new.venues None) r c.in-Came.len
     c.in-Err.stop c.stop_at.result c.bytes.ensures c.in-Came.ensures.steps
     (subst (λ (n : ℕ). IsRecord n r.what)
     (c.pieces.invariant.of_venues ∙ c.requires.of_venues) c.in-Came.ensures.came)
@@ -70,7 +70,7 @@ returns-in-Err g c =
     c.pieces.venues.output.page.page c.take_timed.new.self.output.page.page (Err c.in-Err.stop))
     c.pieces.invariant.same.settings
     (c.in-Err.ensures.takes c.pieces.invariant.kept.at c.pieces.invariant.kept.is_at))
-    c.stop_at.ensures
+    c.stop_at.ensures.ends
 
 pub pieces-preserved-in-Came : goal.pieces-preserved-in-Came
 pieces-preserved-in-Came g c =
@@ -114,8 +114,8 @@ pieces-preserved-in-Passed g c =
       same = c.pieces.invariant.same;
     }
 
-pub returns-in_err-write-in-Bad : goal.returns-in_err-write-in-Bad
-returns-in_err-write-in-Bad g c =
+pub returns-in_err-write-in-Bad-clause-answers : goal.returns-in_err-write-in-Bad-clause-answers
+returns-in_err-write-in-Bad-clause-answers g c =
     let p = err_from_is_err_and c.from_residual.result c.from_residual.ensures.1 in
     let failed = c.in_err-write-in-Bad.ensures in
     rw (p.1, p.2) (
@@ -124,8 +124,8 @@ returns-in_err-write-in-Bad g c =
       failed.failed ∙ ap (λ (n : ℕ). n + 1) c.pieces.invariant.writes,
     )
 
-pub returns-in-Bad : goal.returns-in-Bad
-returns-in-Bad g c =
+pub returns-in-Bad-clause-answers : goal.returns-in-Bad-clause-answers
+returns-in-Bad-clause-answers g c =
     let same = c.in-Bad.ensures.steps.1 in
     let wrote = c.in_ok-write-in-Bad.ensures in
     let bad = subst (λ (bs : List ℕ). g.F.RecordFormat.is_bad c.pieces.format bs c.in-Bad.fault)
@@ -134,8 +134,8 @@ returns-in-Bad g c =
     (kept_written (laws_of g) (FollowsRun c.write.new.self None) wrote.written wrote.none
     (wrote.follows None) (kept_same (laws_of g) same c.pieces.invariant.kept))
 
-pub returns-in_err-write-in-Wants : goal.returns-in_err-write-in-Wants
-returns-in_err-write-in-Wants g c =
+pub returns-in_err-write-in-Wants-clause-answers : goal.returns-in_err-write-in-Wants-clause-answers
+returns-in_err-write-in-Wants-clause-answers g c =
     let p = err_from_is_err_and c.from_residual-in_err-write-in-Wants.result
     c.from_residual-in_err-write-in-Wants.ensures.1 in
     let failed = c.in_err-write-in-Wants.ensures in
@@ -145,8 +145,8 @@ returns-in_err-write-in-Wants g c =
       failed.failed ∙ ap (λ (n : ℕ). n + 1) c.pieces.invariant.writes,
     )
 
-pub returns-then-left-eq0 : goal.returns-then-left-eq0
-returns-then-left-eq0 g c =
+pub returns-then-left-eq0-clause-answers : goal.returns-then-left-eq0-clause-answers
+returns-then-left-eq0-clause-answers g c =
     let same = c.in-Wants.ensures.steps.2 in
     let wrote = c.in_ok-write-in-Wants.ensures in
     let wants = subst (λ (bs : List ℕ). g.F.RecordFormat.wants c.pieces.format bs) c.bytes.ensures
@@ -177,8 +177,8 @@ pieces-preserved g c =
           c.pieces.invariant.same wrote.same;
     }
 
-pub returns-in-Failed : goal.returns-in-Failed
-returns-in-Failed g c =
+pub returns-in-Failed-clause-answers : goal.returns-in-Failed-clause-answers
+returns-in-Failed-clause-answers g c =
     let same = c.in-Wants.ensures.steps.2 in
     let wrote = c.in_ok-write-in-Wants.ensures in
     let wants = subst (λ (bs : List ℕ). g.F.RecordFormat.wants c.pieces.format bs) c.bytes.ensures
@@ -190,8 +190,8 @@ returns-in-Failed g c =
       (c.in-Failed.ensures.failed refl).0 ∙ ap (λ (n : ℕ). n + 1) c.pieces.invariant.reads,
     )
 
-pub returns-in-Ended : goal.returns-in-Ended
-returns-in-Ended g c =
+pub returns-in-Ended-clause-answers : goal.returns-in-Ended-clause-answers
+returns-in-Ended-clause-answers g c =
     let same = c.in-Wants.ensures.steps.2 in
     let wrote = c.in_ok-write-in-Wants.ensures in
     let ended = c.in-Ended.ensures.ended refl in
@@ -202,8 +202,8 @@ returns-in-Ended g c =
     wrote.none (wrote.follows None)
     (kept_same (laws_of g) same c.pieces.invariant.kept))
 
-pub returns-in-Ended-2 : goal.returns-in-Ended-2
-returns-in-Ended-2 g c =
+pub returns-in-Ended-2-clause-answers : goal.returns-in-Ended-2-clause-answers
+returns-in-Ended-2-clause-answers g c =
     let same = c.in-Wants.ensures.steps.2 in
     let wrote = c.in_ok-write-in-Wants.ensures in
     let ended = c.in-Ended.ensures.ended refl in
@@ -217,3 +217,45 @@ returns-in-Ended-2 g c =
     (kept_written (laws_of g) (FollowsRun c.write-in-Wants.new.self None) wrote.written
     wrote.none (wrote.follows None)
     (kept_same (laws_of g) same c.pieces.invariant.kept))
+
+-- what every call of a run leaves as it is
+pub returns-in-Err-clause-same : goal.returns-in-Err-clause-same
+returns-in-Err-clause-same g c =
+    same_then c.args.venues.now c.take_timed.new.self c.stop_at.new.venues
+    (same_then c.args.venues.now c.pieces.venues c.take_timed.new.self c.pieces.invariant.same
+    c.in-Err.ensures.same) c.stop_at.ensures.same
+
+pub returns-in_err-write-in-Bad-clause-same : goal.returns-in_err-write-in-Bad-clause-same
+returns-in_err-write-in-Bad-clause-same g c =
+    same_then c.args.venues.now c.pieces.venues c.write.new.self c.pieces.invariant.same
+    c.in_err-write-in-Bad.ensures.same
+
+pub returns-in-Bad-clause-same : goal.returns-in-Bad-clause-same
+returns-in-Bad-clause-same g c =
+    same_then c.args.venues.now c.pieces.venues c.write.new.self c.pieces.invariant.same
+    c.in_ok-write-in-Bad.ensures.same
+
+pub returns-in_err-write-in-Wants-clause-same : goal.returns-in_err-write-in-Wants-clause-same
+returns-in_err-write-in-Wants-clause-same g c =
+    same_then c.args.venues.now c.pieces.venues c.write-in-Wants.new.self c.pieces.invariant.same
+    c.in_err-write-in-Wants.ensures.same
+
+pub returns-then-left-eq0-clause-same : goal.returns-then-left-eq0-clause-same
+returns-then-left-eq0-clause-same g c =
+    same_then c.args.venues.now c.pieces.venues c.write-in-Wants.new.self c.pieces.invariant.same
+    c.in_ok-write-in-Wants.ensures.same
+
+pub returns-in-Failed-clause-same : goal.returns-in-Failed-clause-same
+returns-in-Failed-clause-same g c =
+    same_then c.args.venues.now c.pieces.venues c.write-in-Wants.new.self c.pieces.invariant.same
+    c.in_ok-write-in-Wants.ensures.same
+
+pub returns-in-Ended-clause-same : goal.returns-in-Ended-clause-same
+returns-in-Ended-clause-same g c =
+    same_then c.args.venues.now c.pieces.venues c.write-in-Wants.new.self c.pieces.invariant.same
+    c.in_ok-write-in-Wants.ensures.same
+
+pub returns-in-Ended-2-clause-same : goal.returns-in-Ended-2-clause-same
+returns-in-Ended-2-clause-same g c =
+    same_then c.args.venues.now c.pieces.venues c.write-in-Wants.new.self c.pieces.invariant.same
+    c.in_ok-write-in-Wants.ensures.same

@@ -1,10 +1,12 @@
 use Rattle.text_out.specs.Members.{writing_of}
-use Rattle.std.proofs.Common.{Bool, true, false, refl}
+use Rattle.std.proofs.Common.{Bool, true, false, refl, sym, subst}
 use Rattle.std.specs.Prelude.{Err, Ok}
 use Rattle.std.proofs.lemmas.Result.{err_from_is_err_and}
 use Rattle.capture_records.specs.Capture.{skip_record}
+use Rattle.venue_normaliser.specs.States.{NormaliserState}
+use Rattle.normalising.specs.Keeping.{SkippedWhere}
 use Rattle.normalising.specs.Normalised.{inputs_of}
-use Rattle.normalising.proofs.Venue.{given_one, given_row, given_takes, no_skip, skip_at, skip_given}
+use Rattle.normalising.proofs.Venue.{given_one, given_row, given_takes, no_skip, skip_at, skip_given, skipped_here}
 use Rattle.normalising.proofs.normalised_venue.NormalisedVenue.skip_to.Goals as goal
 
 pub returns-in_err-skip_to-clause-skips : goal.returns-in_err-skip_to-clause-skips
@@ -58,3 +60,17 @@ returns-in_ok-write_ready-in-Ok-clause-skips g c = λ feed place h follows form_
     (rw c.in-Ok.is at (said.answer h.opening _ follows.fits)))
     (Ok true) (c.in_ok-write_ready-in-Ok.ensures.put _ _ (given_one w) (given_row w)) tt
     c.in_ok-write_ready-in-Ok.ensures.written
+
+pub returns-in-Err-clause-given_up : goal.returns-in-Err-clause-given_up
+returns-in-Err-clause-given_up g c = λ opening packets fits.
+    (rw c.in-Err.is at c.in_ok-skip_to.ensures.refused).0
+
+pub returns-in_ok-write_ready-in-Ok-clause-given_up :
+    goal.returns-in_ok-write_ready-in-Ok-clause-given_up
+returns-in_ok-write_ready-in-Ok-clause-given_up g c = λ opening packets fits.
+    let said = c.in_ok-skip_to.ensures in
+    let may = (rw c.in-Ok.is at (said.answer opening packets fits)).1 in
+    let after = rw c.in-Ok.is at (said.fits opening packets fits) in
+    subst (λ (s : NormaliserState). SkippedWhere packets c.args.number c.args.self.now.normaliser s
+    true) (sym c.in_ok-write_ready-in-Ok.ensures.same)
+    (skipped_here opening packets c.args.number _ _ fits after may)

@@ -10,4 +10,4 @@ returns c = noted_at c.args.self.now _ c.args.venue c.index_mut-it.result.now c.
     c.args.venue _ refl c.requires
     (rw (← c.index.ensures.value) c.index_mut-it.ensures.value))
     (ap (λ i. slice_set c.args.self.now.venues.items i c.count_bad.new.self) c.index.ensures.value)
-    refl refl refl c.count_bad.ensures
+    refl refl refl refl c.count_bad.ensures

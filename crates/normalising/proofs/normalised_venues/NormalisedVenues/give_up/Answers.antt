@@ -1,11 +1,16 @@
 use Rattle.text_out.specs.Members.{writing_of}
-use Rattle.std.proofs.Common.{refl, ap, length, Ok}
+use Rattle.std.proofs.Common.{refl, sym, ap, append-nil, length, Ok}
 use Rattle.std.specs.Prelude.{slice_set}
 use Rattle.std.proofs.lemmas.Option.{slice_get_read}
 use Rattle.std.proofs.lemmas.Result.{err_from_is_err_and}
 use Rattle.capture_records.specs.Capture.{skip_record}
-use Rattle.normalising.proofs.Venues.{gives_next, gives_stop, next_noted, next_unnoted}
+use Rattle.normalising.proofs.Venues.{gives_next, gives_none, gives_stop, skip_gaps}
 use Rattle.normalising.proofs.normalised_venues.NormalisedVenues.give_up.Goals as goal
+
+pub returns-in_default-clause-takes : goal.returns-in_default-clause-takes
+returns-in_default-clause-takes g c = gives_none (Unit {0}) (writing_of g.W.TextOut)
+    g.met.W.TextOut.adds_none (skip_record c.args.venue c.args.number) c.args.self.now _
+    c.args.writer.now _ refl
 
 pub returns-in_err-given_up-clause-takes : goal.returns-in_err-given_up-clause-takes
 returns-in_err-given_up-clause-takes g c =
@@ -20,15 +25,8 @@ returns-in_err-given_up-clause-takes g c =
     (rw (← c.index.ensures.value) c.index_mut-it.ensures.value))
     (λ feed h f is. c.in_err-given_up.ensures.skips feed c.args.venue h f is))
 
-pub returns-in_err-note-clause-takes : goal.returns-in_err-note-clause-takes
-returns-in_err-note-clause-takes g c =
-    let p = err_from_is_err_and c.from_residual-in_err-note.result
-    c.from_residual-in_err-note.ensures.1 in
-    rw (p.1, p.2) (next_unnoted (Unit {0})
-    (writing_of g.W.TextOut)
-    (skip_record c.args.venue c.args.number) c.args.self.now _ _ c.args.writer.now
-    c.give_up.new.writer (tt {0}) c.in_err-note.field-0.0 c.in_err-note.ensures
-    (gives_next
+pub returns-in-Some-clause-takes : goal.returns-in-Some-clause-takes
+returns-in-Some-clause-takes g c = gives_next
     (writing_of g.W.TextOut)
     g.met.W.TextOut.adds_none (skip_record c.args.venue c.args.number) c.args.self.now _
     c.index_mut-it.result.now c.give_up.new.self c.args.writer.now c.give_up.new.writer
@@ -38,14 +36,12 @@ returns-in_err-note-clause-takes g c =
     (rw (← c.index.ensures.value) c.index_mut-it.ensures.value))
     (ap (λ i. slice_set c.args.self.now.venues.items i c.give_up.new.self) c.index.ensures.value)
     refl refl c.in_ok-given_up.ensures.form
-    (λ feed h f is. c.in_ok-given_up.ensures.skips feed c.args.venue h f is)))
+    (λ feed h f is. c.in_ok-given_up.ensures.skips feed c.args.venue h f is)
+    (skip_gaps _ _ _ _ c.args.venue c.args.number _ c.push_reserved.ensures.items
+    (rw c.in-Some.is at c.in_ok-given_up.ensures.gap))
 
 pub returns-clause-takes : goal.returns-clause-takes
-returns-clause-takes g c = next_noted
-    (writing_of g.W.TextOut)
-    (skip_record c.args.venue c.args.number) c.args.self.now _ _ c.args.writer.now
-    c.give_up.new.writer (tt {0}) (tt {0}) c.in_ok-note.ensures
-    (gives_next
+returns-clause-takes g c = gives_next
     (writing_of g.W.TextOut)
     g.met.W.TextOut.adds_none (skip_record c.args.venue c.args.number) c.args.self.now _
     c.index_mut-it.result.now c.give_up.new.self c.args.writer.now c.give_up.new.writer
@@ -55,4 +51,6 @@ returns-clause-takes g c = next_noted
     (rw (← c.index.ensures.value) c.index_mut-it.ensures.value))
     (ap (λ i. slice_set c.args.self.now.venues.items i c.give_up.new.self) c.index.ensures.value)
     refl refl c.in_ok-given_up.ensures.form
-    (λ feed h f is. c.in_ok-given_up.ensures.skips feed c.args.venue h f is))
+    (λ feed h f is. c.in_ok-given_up.ensures.skips feed c.args.venue h f is)
+    (skip_gaps _ _ _ _ c.args.venue c.args.number _ (sym (append-nil _))
+    (rw c.in_default.is at c.in_ok-given_up.ensures.gap))

@@ -10,12 +10,12 @@ returns-in_err-put_self_help-clause-takes g c =
     rw (p.1, p.2) (passing_failed
     (writing_of g.W.TextOut)
     c.args.self.now c.args.self.now c.args.venue c.args.on c.args.writer.now
-    c.put_self_help.new.writer c.in_err-put_self_help.field-0.0 c.requires refl refl refl refl
+    c.put_self_help.new.writer c.in_err-put_self_help.field-0.0 c.requires refl refl refl refl refl
     c.in_err-put_self_help.ensures.part c.in_err-put_self_help.ensures.failed)
 
 pub returns-clause-takes : goal.returns-clause-takes
 returns-clause-takes g c = passed_next
     (writing_of g.W.TextOut)
     c.args.self.now _ c.args.venue c.args.on c.args.writer.now c.put_self_help.new.writer (tt {0})
-    c.requires refl refl refl c.in_ok-put_self_help.ensures.form
+    c.requires refl refl refl c.in_ok-put_self_help.ensures.form refl
     c.in_ok-put_self_help.ensures.taken

@@ -1,5 +1,5 @@
 use Rattle.text_out.specs.Members.{writing_of}
-use Rattle.std.proofs.Common.{refl, ap, length}
+use Rattle.std.proofs.Common.{refl, sym, ap, append-nil, length}
 use Rattle.std.specs.Prelude.{slice_set}
 use Rattle.std.proofs.lemmas.Option.{slice_get_read}
 use Rattle.capture_records.specs.Capture.{renewal_record}
@@ -18,3 +18,4 @@ returns-clause-takes g c = gives_next
     (ap (λ i. slice_set c.args.self.now.venues.items i c.renew.new.self) c.index.ensures.value)
     refl refl c.renew.ensures.form
     (λ feed h f is. c.renew.ensures.renews feed c.args.self.now.latest c.args.venue h f is)
+    (λ feed h after f g. sym (append-nil c.args.self.now.given_up.items))

@@ -13,7 +13,7 @@ returns-in_err-give_up_overdue-clause-takes g c = λ at f.
     rw (p.1, p.2) (timed_taken {A = Unit {0}}
     (writing_of g.W.TextOut)
     r c.args.self.now _ c.give_up_overdue.new.self c.args.writer.now c.give_up_overdue.new.writer
-    (Err c.in_err-give_up_overdue.field-0.0) refl refl refl c.latest_after-self.ensures
+    (Err c.in_err-give_up_overdue.field-0.0) refl refl refl c.latest_after-self.ensures refl
     (stop_first (Unit {0}) (Unit {0})
     (writing_of g.W.TextOut)
     r _ c.give_up_overdue.new.self c.args.writer.now c.give_up_overdue.new.writer
@@ -27,7 +27,7 @@ returns-in_err-take-clause-takes g c = λ at f.
     let r = timed_record (record_of c.args.record.now) c.args.time in
     rw (p.1, p.2) (timed_taken {A = Unit {0}}
     (writing_of g.W.TextOut) r c.args.self.now _ c.take.new.self c.args.writer.now c.take.new.writer
-    (Err c.in_err-take.field-0.0) refl refl refl c.latest_after-self.ensures
+    (Err c.in_err-take.field-0.0) refl refl refl c.latest_after-self.ensures refl
     (takes_then (writing_of g.W.TextOut)
     g.met.W.TextOut.adds_more r _ c.give_up_overdue.new.self c.take.new.self
     c.args.writer.now c.give_up_overdue.new.writer c.take.new.writer
@@ -40,7 +40,7 @@ returns-in-Some-clause-takes g c = λ at f.
     let r = timed_record (record_of c.args.record.now) c.args.time in
     timed_taken (writing_of g.W.TextOut)
     r c.args.self.now _ c.note_gap.new.self c.args.writer.now c.take.new.writer
-    (Ok (tt {0})) refl refl refl c.latest_after-self.ensures
+    (Ok (tt {0})) refl refl refl c.latest_after-self.ensures refl
     (too_noted (writing_of g.W.TextOut)
     r _ c.take.new.self c.note_gap.new.self c.args.writer.now c.take.new.writer (tt {0}) (tt {0})
     c.note_gap.ensures
@@ -56,7 +56,7 @@ returns-in_default-clause-takes g c = λ at f.
     let r = timed_record (record_of c.args.record.now) c.args.time in
     timed_taken (writing_of g.W.TextOut)
     r c.args.self.now _ c.take.new.self c.args.writer.now c.take.new.writer
-    (Ok (tt {0})) refl refl refl c.latest_after-self.ensures
+    (Ok (tt {0})) refl refl refl c.latest_after-self.ensures refl
     (takes_then (writing_of g.W.TextOut)
     g.met.W.TextOut.adds_more r _ c.give_up_overdue.new.self c.take.new.self
     c.args.writer.now c.give_up_overdue.new.writer c.take.new.writer
