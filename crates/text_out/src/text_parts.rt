@@ -1,7 +1,7 @@
 //! Texts that grow by parts: labels, and numbers after them.
 //!
-//! A text in a `Vec` takes any parts in a row, and stays as it was where memory is refused. The rows
-//! of a replay are put faster, by `parts.rt`, into room that is made for a whole row.
+//! A text in a `Vec` takes any parts in a row, and stays as it was where memory is refused. Rows of
+//! a replay are put faster, by `parts.rt`, into room that is made for a whole row.
 ghost use Rattle.std.specs.Prelude.{◌≡◌, ◌+◌, ◌<◌, ◌≤◌, ◌++◌, OnOk, OnErr, decimal, length, take, vec_capacity, vec_len};
 ghost use Rattle.text_out.specs.TextParts.{all_labelled_in, filled_text, labelled_in, nine_places, spaces, text_of_part, text_of_parts};
 
@@ -187,7 +187,8 @@ fn put_each_labelled(
     style: NumberStyle,
     numbers: &[LabelledNumber<'_>],
 ) -> Result<(), AllocError>
-    ensures ok { OnOk result (text.new.items ≡ text.old.items ++ all_labelled_in style numbers.now) }
+    ensures ok { OnOk result (text.new.items
+        ≡ text.old.items ++ all_labelled_in style numbers.now) }
     ensures front { OnErr result (take (vec_len text.old) text.new.items ≡ text.old.items) }
     ensures full { OnErr result (vec_capacity text.old
         < vec_len text.old + length (all_labelled_in style numbers.now)) }
@@ -205,7 +206,8 @@ pub fn put_labelled(
     style: NumberStyle,
     numbers: &[LabelledNumber<'_>],
 ) -> Result<(), AllocError>
-    ensures ok { OnOk result (text.new.items ≡ text.old.items ++ all_labelled_in style numbers.now) }
+    ensures ok { OnOk result (text.new.items
+        ≡ text.old.items ++ all_labelled_in style numbers.now) }
     ensures err { OnErr result (text.new.items ≡ text.old.items) }
     ensures full { OnErr result (vec_capacity text.old
         < vec_len text.old + length (all_labelled_in style numbers.now)) }
