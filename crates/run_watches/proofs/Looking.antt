@@ -19,8 +19,8 @@ pub looked : {E : Type 0} (w : Writing E) (names : VenueNames) (answers : ℕ �
     → a ≡ watch_begun old status → b ≡ stands a now status → c ≡ after_joins rule b status
     → d ≡ record c { told = d.told; has_told_unanswered = d.has_told_unanswered }
     → SaysOfSession w names old now status first begun
-    → SaysEach w (gap_texts_if names (now / 1000) b.venue GivenUp (joined_range rule b status)) begun
-    joined
+    → SaysEach w (gap_texts_if names (now / 1000) b.venue GivenUp (joined_range rule b status))
+    begun joined
     → TellsStanding w names c now status joined told
     → GivesUpDue w names (answers d.venue) rule d now status told last
     → SaysOfVenue w names (answers old.venue) rule old now status first last

@@ -78,33 +78,6 @@ impl GapWatches {
         }
     }
 
-    /// Looks at the venue at a place, if there is one.
-    fn look_at<S, K, E>(
-        &mut self,
-        names: &VenueNames,
-        place: usize,
-        elapsed_ms: u64,
-        status: S,
-        skip: K,
-        errors: &mut E,
-    )
-    where
-        S: Fn(VenueId) -> Option<VenueStatus>,
-        K: Fn(VenueId, u64) -> bool,
-        E: TextOut,
-        requires status { S.IsAlwaysCallable status }
-        requires skip { K.IsAlwaysCallable skip }
-        ensures gaps { watched_gaps self.new ≡ watched_gaps self.old }
-        ensures says { SaysNews (writing_of E.TextOut) names.now
-            (IsNewsOfGaps (watched_gaps self.old)) errors.old errors.new }
-    {
-        let rule = self.rule;
-        match self.gaps.get_mut(place) {
-            Some(gap) => gap.look(names, &rule, elapsed_ms, status, skip, errors),
-            None => {}
-        }
-    }
-
     /// Looks at the venues, `elapsed_ms` milliseconds after the beginning, unless it has done so
     /// just before: says what is new of their gaps, and gives up what is due. `status` returns what
     /// a venue has come to, or None where there is none; `skip` goes on from a message of a venue,
@@ -131,8 +104,13 @@ impl GapWatches {
             return;
         }
         self.due_ms = elapsed_ms.saturating_add(LOOK_MS);
-        for place in 0..self.gaps.len() {
-            self.look_at(names, place, elapsed_ms, &status, &skip, errors);
+        let rule = self.rule;
+        let gaps = &mut self.gaps;
+        for place in 0..gaps.len() {
+            match gaps.get_mut(place) {
+                Some(gap) => gap.look(names, &rule, elapsed_ms, &status, &skip, errors),
+                None => {}
+            }
         }
     }
 }

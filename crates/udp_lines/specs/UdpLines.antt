@@ -21,13 +21,13 @@ use Rattle.udp_lines.specs.EndsOfSessions.{SpellsEndOf}
 use Rattle.udp_lines.specs.Brought.{HasMet, Kept, SortingRule}
 
 -- the venue, which of its lines it is, the session, which ends of session end the line, the senders
--- whose datagrams it brings, where any are named, how many it may still read, if there is any limit,
+-- whose datagrams it brings, where any are named, how many it may still read, if there is a limit,
 -- and after which moment it reads none, if after any; whether its socket has failed, whether an end
 -- that was its last datagram has ended it, or its time, the session of such an end, and the mark
 -- that shows whether a reply is awaited, if there is one; the most that a number may be ahead, if
 -- that is asked; the socket, what the line keeps of what that has brought, the datagram that is
--- there for the next call, and whether that one's answer is there; and where the line hands over
--- what its venue took, if that is recorded
+-- there for the next call, and whether what that call answers is there; and where the line hands
+-- over what its venue took, if that is recorded
 pub record UdpLineState (S : Type 0) : Type 0 where
   pub venue : ℕ
   pub line : LineId

@@ -1,7 +1,6 @@
 //! Which of its venue's lines a line is.
 
 ghost use Rattle.std.specs.Prelude.{◌≡◌, true};
-ghost use Rattle.feed_types.specs.declared.line.LineId.TheVariants.{Recovery};
 ghost use Rattle.udp_lines.specs.UdpLines.{line_of};
 
 use crate::line_progress::LineProgress;
@@ -31,7 +30,7 @@ impl LineUse {
 
     /// Whether the lines have ended with which it ends.
     pub(crate) fn is_over(&self) -> bool
-        ensures { result ≡ true → line_of self.now ≡ Recovery }
+        ensures { result ≡ true → line_of self.now ≡ LineId.Recovery }
     {
         match self {
             LineUse::A | LineUse::B => false,
