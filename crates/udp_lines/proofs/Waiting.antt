@@ -10,13 +10,13 @@ by_mark : (awaits : Bool) (left : Option ℕ) (ended : Bool)
 by_mark true left ended l d = l ∙ sym (ap (λ (b : Bool). if b then Some 0 else None) d)
 by_mark false left ended l d = l ∙ sym (ap (λ (b : Bool). if b then Some 0 else None) d)
 
+abbrev left : {S : Type 0} → UdpLineState S → Option ℕ
+left line = line.left
+
+abbrev ended : {S : Type 0} → UdpLineState S → Bool
+ended line = line.ended
+
 module _ {S : Type 0} (old mid late new : UdpLineState S) where
-  left : UdpLineState S → Option ℕ
-  left line = line.left
-
-  ended : UdpLineState S → Bool
-  ended line = line.ended
-
   marked : (awaits : Bool) → mid ≡ read_on_by awaits old → HasEndedInTime mid late
       → new.left ≡ late.left → new.ended ≡ late.ended
       → new.left ≡ (if new.ended then Some 0 else None)

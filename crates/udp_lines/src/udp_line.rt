@@ -609,6 +609,7 @@ impl<S: DatagramIn + Drop, C: Clock + Drop> LineSource<Anything> for UdpLine<S, 
     }
 
     fn await_next(&mut self) -> bool
+        ensures brings { HasBrought S.brings S.waits self.old [] self.new }
         ensures rest { self.new ≡ record (self.old) {
           left = self.new.left;
           ended = self.new.ended;
