@@ -1,14 +1,15 @@
 //! The gaps of a run's venues as the thread beside the run sees them.
 ghost use Rattle.std.specs.List.{range_with_len};
-ghost use Rattle.std.specs.Prelude.{◌≡◌, ◌≤◌, IfOk, map};
+ghost use Rattle.std.specs.Prelude.{◌≡◌, ◌≤◌, ◌/◌, IfOk, map};
 ghost use Rattle.text_out.specs.Members.{writing_of};
+ghost use Rattle.text_out.specs.StandardError.{SaysEach};
+ghost use Rattle.run_watches.specs.GivenUps.{NotesGivenUp, giving_up_at, noted_texts};
 ghost use Rattle.run_watches.specs.RunLines.{told_gaps, watched_gaps, watched_venue};
 ghost use Rattle.run_watches.specs.RunNews.{IsNewsOfGaps, SaysNews};
 
-use crate::gap_news::MissingRun;
 use crate::gap_rule::GapRule;
 use crate::gap_watch::GapWatch;
-use feed_types::VenueId;
+use feed_types::{MissingRange, VenueId};
 use run_settings::{ListenSettings, VenueNames};
 use std::alloc::{AllocError, Global};
 use text_out::TextOut;
@@ -59,18 +60,20 @@ impl GapWatches {
         names: &VenueNames,
         elapsed_ms: u64,
         venue: VenueId,
-        run: MissingRun,
+        missing: MissingRange,
         errors: &mut E,
     )
         ensures gaps { watched_gaps self.new ≡ watched_gaps self.old }
-        ensures says { SaysNews (writing_of E.TextOut) names.now
-            (IsNewsOfGaps (watched_gaps self.old)) errors.old errors.new }
+        ensures notes { NotesGivenUp self.old venue missing self.new }
+        ensures says { SaysEach (writing_of E.TextOut)
+            (noted_texts names.now (elapsed_ms / 1000) (giving_up_at self.old venue) missing)
+            errors.old errors.new }
     {
         if !self.rule.gives_up() {
             return;
         }
         match self.gaps.get_mut(venue.index()) {
-            Some(gap) => gap.note_given_up(names, elapsed_ms / 1_000, run, errors),
+            Some(gap) => gap.note_given_up(names, elapsed_ms / 1_000, missing, errors),
             None => {}
         }
     }
