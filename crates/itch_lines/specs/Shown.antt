@@ -22,7 +22,7 @@ pub record ShowsNormaliser (n : NormaliserState) (packets : List Input) (status 
   pub gap : status.gap ≡ gap_asked n packets
 
 -- there is a state that the venue's lock may keep, and the status is that of it
-pub record ShowsVenue (venue : ℕ) (status : ItchStatus) : Type 0 where
+pub record ShowsItchVenue (venue : ℕ) (status : ItchStatus) : Type 0 where
   pub state : ItchState
   pub was : HasBeenGiven state.normaliser
   pub venue_is : state.normaliser.lines.venue ≡ venue
@@ -31,7 +31,7 @@ pub record ShowsVenue (venue : ℕ) (status : ItchStatus) : Type 0 where
 
 -- the venue may show this: such a status, or nothing, as one whose normaliser has failed
 abbrev pub MayShow : (venue : ℕ) → Option ItchStatus → Type 0
-MayShow venue status = IfSome status (ShowsVenue venue)
+MayShow venue status = IfSome status (ShowsItchVenue venue)
 
 -- ---- beside the feed
 

@@ -1,6 +1,7 @@
 //! What the venues of a run in ITCH show, for the thread beside it.
-ghost use Rattle.std.specs.Prelude.{◌≡◌, IfOk, is_some, map};
-ghost use Rattle.udp_listening.specs.ItchShown.{AreSeen, HasSeenNothing, IsReportedOf, at_venue, messages_of, noted_then, reported_at, shown_beside};
+ghost use Rattle.std.specs.Prelude.{◌≡◌, ◌<◌, IfOk, IfSome, is_some, map};
+ghost use Rattle.udp_listening.specs.ItchReports.{IsReportedOf, given_up_messages, reported_at};
+ghost use Rattle.udp_listening.specs.ItchShown.{AreSeen, HasSeenNothing, at_venue, noted_then, shown_beside};
 
 use feed_types::{MAX_VENUES, MissingRange, VenueId};
 use itch_lines::{GivenUp, ItchStatus, StatusSource, VenueShare};
@@ -14,7 +15,7 @@ const NONE_SEEN: [Option<ItchStatus>; MAX_VENUES] = [None; MAX_VENUES];
 #[derive(Drop)]
 pub struct ItchStatuses<S> {
     /// What shows each of the venues.
-    shares: Vec<S>,
+    sources: Vec<S>,
     /// Of each venue what it has shown; None where it isn't in ITCH, or its normaliser has failed.
     seen: [Option<ItchStatus>; MAX_VENUES],
     /// Of each venue the gap that was reported to be given up last.
@@ -33,8 +34,8 @@ fn shown_beside(itch: Option<ItchStatus>, feed: Option<VenueStatus>) -> Option<V
 }
 
 /// Returns the messages of a gap that was given up, if one was.
-fn messages_of(given_up: Option<GivenUp>) -> Option<MissingRange>
-    ensures { result ≡ messages_of given_up }
+fn given_up_messages(given_up: Option<GivenUp>) -> Option<MissingRange>
+    ensures { result ≡ given_up_messages given_up }
 {
     match given_up {
         Some(given_up) => Some(given_up.messages),
@@ -44,10 +45,12 @@ fn messages_of(given_up: Option<GivenUp>) -> Option<MissingRange>
 
 /// Notes what was shown, at its venue's place.
 fn note(seen: &mut [Option<ItchStatus>; MAX_VENUES], shown: Option<ItchStatus>)
-    ensures { seen.new ≡ noted_then shown seen.old }
+    ensures noted { seen.new ≡ noted_then shown seen.old }
+    ensures in_range { IfSome shown (λ status. status.venue < 16) }
 {
     if let Some(status) = shown {
-        seen[status.venue.index()] = Some(status);
+        let place = status.venue.index();
+        seen[place] = Some(status);
     }
 }
 
@@ -80,12 +83,12 @@ impl ItchStatuses<VenueShare> {
         alloc: Global,
         shares: &[VenueShare],
     ) -> Result<ItchStatuses<VenueShare>, AllocError>
-        ensures venues { IfOk result (λ statuses. map (λ share. share.venue) statuses.shares.items
+        ensures venues { IfOk result (λ statuses. map (λ share. share.venue) statuses.sources.items
             ≡ map (λ share. share.venue) shares.now) }
         ensures none { IfOk result HasSeenNothing }
     {
         Ok(ItchStatuses {
-            shares: shared(alloc, shares)?,
+            sources: shared(alloc, shares)?,
             seen: NONE_SEEN,
             reported: [None; MAX_VENUES],
         })
@@ -95,10 +98,10 @@ impl ItchStatuses<VenueShare> {
 impl<S: StatusSource> ItchStatuses<S> {
     /// Looks at what each of the venues shows.
     pub fn look(&mut self)
-        ensures seen { AreSeen S.shows self.old.shares.items self.new.seen }
+        ensures seen { AreSeen S.shows self.old.sources.items self.new.seen }
         ensures kept { self.new ≡ record self.old { seen = self.new.seen } }
     {
-        self.seen = seen_by(self.shares.as_slice());
+        self.seen = seen_by(self.sources.as_slice());
     }
 }
 
@@ -134,7 +137,7 @@ impl<S> ItchStatuses<S> {
         if is_reported {
             None
         } else {
-            messages_of(status.given_up)
+            given_up_messages(status.given_up)
         }
     }
 }
