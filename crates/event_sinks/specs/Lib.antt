@@ -3,5 +3,5 @@ pub mod SinkEvents
 pub mod TextPages
 pub mod TextPageLaws
 pub mod EventLines
-pub mod LackTexts
-pub mod VenueLacks
+pub mod VenueGapTexts
+pub mod VenueGaps

@@ -15,7 +15,7 @@ use Rattle.feed_text.specs.ReplayEvents.{self_help_declared}
 use Rattle.feed_text.specs.Following.{ReplayVenue, VenueList, Follows, FollowAll, EmitsNext, EmitsOne, TakesRecord}
 use Rattle.feed_types.specs.ListLaws.{get_within}
 use Rattle.feed_text.specs.laws.Lists.{get_set_same, get_set_other, same_or_not, same_set}
-use Rattle.event_sinks.specs.declared.lack.MissingRange.{MissingRange}
+use Rattle.event_sinks.specs.declared.venue_gap.VenueGap.{VenueGap}
 use Rattle.feed_text.specs.Lacks.{lack_of, lacks_of}
 use Rattle.feed_text.proofs.VenueSteps.{on_ok}
 use Rattle.feed_text.proofs.Rest.{rest_at}
@@ -175,20 +175,20 @@ lasts_done hs i h = ap (lasts_told i) (drop_of_length-le hs h)
 
 -- what one more venue lacks
 pub lacks_more : (window : ℕ) (hs : List History) (i : ℕ) (h : History) (old new all : List
-    MissingRange)
+    VenueGap)
     → slice_get hs i ≡ Some h → new ≡ old ++ lack_of window i h → old
     ++ lacks_of window i (drop i hs) ≡ all → new ++ lacks_of window (i + 1) (drop (i + 1) hs) ≡ all
 lacks_more window hs i h old new all at put is =
     let L = lacks_of window (i + 1) (drop (i + 1) hs) in
-    ap (λ (t : List MissingRange). t ++ L) put ∙ append_assoc old (lack_of window i h) L
-    ∙ ap (λ (t : List MissingRange). old ++ t) (sym (ap (lacks_of window i) (rest_at hs i h (sym
+    ap (λ (t : List VenueGap). t ++ L) put ∙ append_assoc old (lack_of window i h) L
+    ∙ ap (λ (t : List VenueGap). old ++ t) (sym (ap (lacks_of window i) (rest_at hs i h (sym
     at))))
     ∙ is
 
-pub lacks_done : (window : ℕ) (hs : List History) (i : ℕ) (lacks all : List MissingRange)
+pub lacks_done : (window : ℕ) (hs : List History) (i : ℕ) (lacks all : List VenueGap)
     → length hs ≤ i
     → lacks ++ lacks_of window i (drop i hs) ≡ all → lacks ≡ all
 lacks_done window hs i lacks all h is = sym (append-nil lacks)
-    ∙ ap (λ (t : List MissingRange). lacks ++ t) (sym (ap (lacks_of window i) (drop_of_length-le hs
+    ∙ ap (λ (t : List VenueGap). lacks ++ t) (sym (ap (lacks_of window i) (drop_of_length-le hs
     h)))
     ∙ is

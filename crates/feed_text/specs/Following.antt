@@ -21,7 +21,7 @@ use Rattle.capture_records.specs.Capture.{CaptureRecord, record_venue}
 use Rattle.feed_text.specs.ReplayEvents.{ReplayEvent, item_taken, packet_answered}
 use Rattle.line_arbiter.specs.LastSent.{stream_length, last_sent}
 use Rattle.feed_text.specs.Emitted.{items_emitted, EmitsAt, EmitsRecord}
-use Rattle.event_sinks.specs.declared.lack.MissingRange.{MissingRange}
+use Rattle.event_sinks.specs.declared.venue_gap.VenueGap.{VenueGap}
 use Rattle.feed_text.specs.Lacks.{lacks_of}
 use Rattle.feed_text.specs.ReplayStates.{SinkTaking, ReplayState, EmitsInto}
 
@@ -140,7 +140,7 @@ pub record TakesRecord {K : Type 0} (taking : SinkTaking K) (from : VenueList)
       → EmitsNext taking window from.gaps r hs old new to.items done
 
 -- What the venues lack follows the old list, whatever histories the venues follow.
-abbrev pub LeavesLacks : VenueList → List MissingRange → List MissingRange → Type 0
+abbrev pub LeavesLacks : VenueList → List VenueGap → List VenueGap → Type 0
 LeavesLacks at old new =
     (window : ℕ) (hs : List History) → FollowAll window at.items hs
     → new ≡ old ++ lacks_of window 0 hs

@@ -15,7 +15,7 @@ use crate::replay_sink::ReplaySink;
 use crate::run::run;
 use crate::venues::ReplayVenues;
 use capture_records::{CAPTURE_ROOM, OwnFormat, ReadBuffer, RecordFormat};
-use event_sinks::{EventSink, MissingRange, ReplayStop, Replayed, TextPage, TextSink};
+use event_sinks::{EventSink, ReplayStop, Replayed, TextPage, TextSink, VenueGap};
 use feed_types::{SessionName, SymbolName};
 use journal_book::NumberedBook;
 use run_settings::{NextSession, SkipRule};
@@ -71,7 +71,7 @@ fn new_journal(alloc: Global, config: &ReplayConfig<'_>) -> Result<NumberedBook,
 fn prepare(
     alloc: Global,
     config: &ReplayConfig<'_>,
-    lacks: &mut Vec<MissingRange>,
+    lacks: &mut Vec<VenueGap>,
 ) -> Result<Prepared, AllocError>
     requires { CanReplay config.now }
     ensures prepared { IfOk result (λ made.
@@ -91,7 +91,7 @@ fn prepare(
 fn close<F, K: EventSink>(
     venues: &ReplayVenues,
     sink: &mut K,
-    lacks: &mut Vec<MissingRange>,
+    lacks: &mut Vec<VenueGap>,
 ) -> Result<(), ReplayStop<F>>
     requires { length lacks.old.items + length venues.now.items ≤ vec_capacity lacks.old }
     ensures closes { ClosesSink K.takes K.fails K.is_shown venues.now sink.old sink.new result }
@@ -111,7 +111,7 @@ fn replay_prepared<R: CaptureIn, F: RecordFormat, K: EventSink>(
     format: &mut F,
     reader: &mut R,
     sink: K,
-    lacks: &mut Vec<MissingRange>,
+    lacks: &mut Vec<VenueGap>,
 ) -> Replayed<K, F::Fault>
     requires can { CanReplay config.now }
     requires of_venues { F.venues format.old ≡ venues_in config.now }
@@ -168,7 +168,7 @@ pub fn replay_events<R: CaptureIn, F: RecordFormat, K: EventSink>(
     format: &mut F,
     reader: &mut R,
     sink: K,
-    lacks: &mut Vec<MissingRange>,
+    lacks: &mut Vec<VenueGap>,
 ) -> Replayed<K, F::Fault>
     requires can { CanReplay config.now }
     requires of_venues { F.venues format.old ≡ venues_in config.now }
@@ -224,7 +224,7 @@ pub fn replay<R: CaptureIn, W: TextOut>(
     config: &ReplayConfig<'_>,
     reader: &mut R,
     writer: W,
-    lacks: &mut Vec<MissingRange>,
+    lacks: &mut Vec<VenueGap>,
 ) -> ReplayRun<W>
     requires { CanReplay config.now }
     ensures replays { AnswersReplay

@@ -19,7 +19,7 @@ ghost use Rattle.feed_text.specs.ReplayStates.{EmitsInto, state_of_replay};
 ghost use Rattle.feed_text.specs.Following.{Follows, SendsReady, TakesReady, PublishesPacket, EmitsOne, GivesUp, Renews};
 
 use crate::replay_sink::{PublishStop, ReplaySink};
-use event_sinks::{EventSink, MissingRange, ReplayedEvent, SinkStop};
+use event_sinks::{EventSink, ReplayedEvent, SinkStop, VenueGap};
 use feed_types::{Anything, Entry, LineId, Numbered, SessionName, VenueId};
 use line_arbiter::{Arbiter, LineFault, Outcome, RenewFault, SkipFault};
 use mold_packet::{Messages, Packet, Request, read_packet};
@@ -470,7 +470,7 @@ impl VenueReplay {
     }
 
     /// Appends what the venue lacks, if it lacks anything. There is memory for it.
-    pub fn put_lack(&self, lacks: &mut Vec<MissingRange>)
+    pub fn put_lack(&self, lacks: &mut Vec<VenueGap>)
         requires { length lacks.old.items < vec_capacity lacks.old }
         ensures lack { (width place : ℕ) (h : History) → Follows width place self.now h
             → lacks.new.items ≡ lacks.old.items ++ lack_of width place h }
@@ -478,7 +478,7 @@ impl VenueReplay {
         ensures capacity { vec_capacity lacks.new ≡ vec_capacity lacks.old }
     {
         if let Some(gap) = self.arbiter.gap() {
-            lacks.push_reserved(MissingRange::of(self.arbiter.venue(), &gap));
+            lacks.push_reserved(VenueGap::of(self.arbiter.venue(), &gap));
         }
     }
 

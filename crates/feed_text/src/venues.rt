@@ -14,7 +14,7 @@ use crate::replay::ReplayConfig;
 use crate::replay_sink::{PublishStop, ReplaySink};
 use crate::venue::VenueReplay;
 use capture_records::Record;
-use event_sinks::{EventSink, MissingRange, SinkStop};
+use event_sinks::{EventSink, SinkStop, VenueGap};
 use feed_types::{SessionName, VenueId};
 use mold_packet::Request;
 use std::alloc::{AllocError, Global};
@@ -157,7 +157,7 @@ impl ReplayVenues {
     }
 
     /// Appends what each venue lacks, of each that lacks anything. There is memory for them.
-    pub fn put_lacks(&self, lacks: &mut Vec<MissingRange>)
+    pub fn put_lacks(&self, lacks: &mut Vec<VenueGap>)
         requires { length lacks.old.items + length self.now.items ≤ vec_capacity lacks.old }
         ensures { LeavesLacks self.now lacks.old.items lacks.new.items }
     {

@@ -3,7 +3,7 @@ pub mod GapPrints
 pub mod Keeping
 pub mod NoPacket
 pub mod PrintedTexts
-pub mod SaidLacks
+pub mod SaidGaps
 pub mod WatchedRuns
 pub mod SessionCounts
 pub mod SinkPrints

@@ -40,4 +40,4 @@ pub missing_after : {R S F : Type 0} (reading : Reading R) (parsing : Parsing S 
     → LeavesMissing reading parsing config from to start finish old new (result_and printed seen)
 missing_after reading parsing config from to start finish old new (Ok done) seen left = left
 missing_after reading parsing config from to start finish old new (Err stop) seen left =
-    record { lacks = tt; absent = tt }
+    record { gaps = tt; absent = tt }

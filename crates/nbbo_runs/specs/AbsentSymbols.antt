@@ -59,7 +59,7 @@ pub record LeavesAbsent {R S F : Type 0} (reading : Reading R) (parsing : Parsin
 -- nothing is missing yet, and symbols are watched or not
 pub record IsNewMissing (is_watched : Bool) (missing : Missing) : Type 0 where
   pub watched : missing.is_watched ≡ is_watched
-  pub lacks : missing.lacks.items ≡ []
+  pub gaps : missing.gaps.items ≡ []
 
 -- ---- what is said
 

@@ -5,7 +5,7 @@ pub mod Discovery
 pub mod Ending
 pub mod Hints
 pub mod Kept
-pub mod Lacks
+pub mod ReportedGaps
 pub mod NamedSessions
 pub mod NormaliseReports
 pub mod NormaliseRuns

@@ -1,14 +1,14 @@
 -- What is said on standard error at the end of a run of normalise. This project's own texts.
 use Rattle.std.specs.Prelude.{ℕ, ◌==◌, ◌&&◌, not, List, [], ◌∷◌, ◌++◌, codes, decimal, flat_map, Option, Some, None, Result, Ok, Err, if◌then◌else◌}
-use Rattle.event_sinks.specs.LackTexts.{lack_texts, messages_text}
+use Rattle.event_sinks.specs.VenueGapTexts.{missing_texts, venue_gap_texts}
+use Rattle.event_sinks.specs.declared.venue_gap.VenueGap.{VenueGap}
+use Rattle.feed_types.specs.declared.missing_range.MissingRange.{MissingRange}
 use Rattle.event_sinks.specs.declared.replay_stop.ReplayStop.{ReplayStop}
 use Rattle.itch_book.specs.declared.fault.BookFault.{BookFault}
 use Rattle.itch_book.specs.declared.fault.BookFault.TheVariants.{DuplicateSymbol, NoMemory, TooManyOrders, TooManyShares, TooManySymbols}
 use Rattle.normalising.specs.declared.normalise_stop.NormaliseStop.{NormaliseStop}
 use Rattle.normalising.specs.declared.normalise_stop.NormaliseStop.TheVariants as stops
 use Rattle.normalising.specs.declared.packet_counts.PacketCounts.{PacketCounts}
-use Rattle.normalising.specs.declared.venue_report.GivenUp.{GivenUp}
-use Rattle.normalising.specs.declared.venue_report.MissingRun.{MissingRun}
 use Rattle.normalising.specs.declared.venue_report.VenueReport.{VenueReport}
 use Rattle.venue_normaliser.specs.declared.fault.NormaliserFault.{NormaliserFault}
 use Rattle.venue_normaliser.specs.declared.fault.NormaliserFault.TheVariants as faults
@@ -20,19 +20,18 @@ abbrev pub venue_line_texts : (venue : ℕ) → (text : List ℕ) → List (List
 venue_line_texts venue text = codes "nbbo: venue " ∷ decimal venue ∷ text ∷ []
 
 -- of a gap that was given up which messages are missing, and that the venue is quoted no more
-abbrev pub given_up_texts : GivenUp → List (List ℕ)
+abbrev pub given_up_texts : VenueGap → List (List ℕ)
 given_up_texts gap =
     venue_line_texts gap.venue (codes " lacks ")
-    ++ (decimal gap.count ∷ messages_text gap.count ∷ decimal gap.number
-    ∷ codes ", and is quoted no more\n" ∷ [])
+    ++ (missing_texts gap.messages ++ codes ", and is quoted no more\n" ∷ [])
 
 -- ---- the report of a venue
 
 -- which messages are missing, if any are
-abbrev pub standing_texts : (venue : ℕ) → Option MissingRun → List (List ℕ)
+abbrev pub standing_texts : (venue : ℕ) → Option MissingRange → List (List ℕ)
 standing_texts venue None = []
-standing_texts venue (Some missing) =
-    lack_texts (record { venue = venue; number = missing.number; count = missing.count })
+standing_texts venue (Some messages) =
+    venue_gap_texts (record { venue = venue; messages = messages })
 
 -- a line with a count, where that isn't 0
 abbrev pub venue_count_texts : (venue : ℕ) → (label : List ℕ) → ℕ → List (List ℕ)
@@ -97,7 +96,7 @@ normalise_end_texts end_texts read (Err (stops.Book venue fault)) =
 -- the gaps that were given up, then the reports of the venues, and then why the run ended
 abbrev pub normalise_texts : {S F : Type 0}
     → (end_texts : S → List ℕ → Result (Unit {0}) (ReplayStop F) → List (List ℕ)) → (read : S)
-    → List GivenUp → List VenueReport → Result (Unit {0}) (NormaliseStop F) → List (List ℕ)
+    → List VenueGap → List VenueReport → Result (Unit {0}) (NormaliseStop F) → List (List ℕ)
 normalise_texts end_texts read gaps reports outcome =
     flat_map given_up_texts gaps
     ++ (flat_map venue_report_texts reports ++ normalise_end_texts end_texts read outcome)

@@ -14,7 +14,7 @@ use Rattle.normalising.specs.declared.normalise_stop.NormaliseStop.{NormaliseSto
 use Rattle.normalising.specs.declared.normalised_feed.NormalisedFeed.{NormalisedFeed}
 use Rattle.normalising.specs.declared.output_form.OutputForm.{OutputForm}
 use Rattle.normalising.specs.declared.output_form.OutputForm.TheVariants as forms
-use Rattle.normalising.specs.declared.venue_report.GivenUp.{GivenUp}
+use Rattle.event_sinks.specs.declared.venue_gap.VenueGap.{VenueGap}
 use Rattle.normalising.specs.declared.venue_report.VenueReport.{VenueReport}
 use Rattle.packet_capture.specs.declared.datagram.Address.{Address}
 use Rattle.packet_capture.specs.declared.datagram.Address.TheVariants.{V4}
@@ -67,7 +67,7 @@ pub record NormalisesOver {R W E S F : Type 0} (devices : Devices R W E) (parsin
   pub is : IsNormalisedFeed settings snapshots feed
   pub form_is : feed.form ≡ form
   pub finish : S
-  pub gaps : List GivenUp
+  pub gaps : List VenueGap
   pub reports : List VenueReport
   pub outcome : Result (Unit {0}) (NormaliseStop F)
   pub answers : AnswersNormalising devices.reading parsing devices.writing feed 1000000000

@@ -10,7 +10,7 @@ use Rattle.text_out.specs.Devices.{Reading, Writing, Wrote}
 use Rattle.feed_text.specs.EventReplays.{AnswersRun, venues_in}
 use Rattle.capture_records.specs.Formats.{Parsing}
 use Rattle.feed_text.specs.Lacks.{AppendsLacks}
-use Rattle.event_sinks.specs.declared.lack.MissingRange.{MissingRange}
+use Rattle.event_sinks.specs.declared.venue_gap.VenueGap.{VenueGap}
 use Rattle.feed_text.specs.ReplayStates.{SinkTaking}
 use Rattle.feed_text.specs.Replays.{text_told}
 use Rattle.event_sinks.specs.SinkEvents.{TimedEvent}
@@ -37,7 +37,7 @@ use Rattle.nbbo_runs.specs.AbsentSymbols.{LeavesAbsent}
 use Rattle.run_notes.specs.AbsentSymbols.{symbols_with}
 use Rattle.nbbo_runs.specs.declared.watched_sink.Missing.{Missing}
 use Rattle.nbbo_runs.specs.Kept.{keeping}
-use Rattle.nbbo_runs.specs.Lacks.{is_packet_input}
+use Rattle.nbbo_runs.specs.ReportedGaps.{is_packet_input}
 
 -- A writer takes the text of events; or it takes a front of it, and fails.
 abbrev pub printing : {W : Type 0} → Writing W → (List TimedEvent → List ℕ) → SinkTaking W
@@ -134,8 +134,8 @@ pub record IsStatsText (config : ReplayConfig) (timed : Bool) (told : List Timed
 pub record LeavesMissing {R S F : Type 0} (reading : Reading R) (parsing : Parsing S F)
     (config : ReplayConfig) (from to : R) (start finish : S) (before after : Missing)
     (outcome : Result (Unit {0}) (ReplayStop F)) : Type 0 where
-  pub lacks : OnOk outcome (AppendsLacks reading parsing config from to start finish
-      before.lacks.items after.lacks.items)
+  pub gaps : OnOk outcome (AppendsLacks reading parsing config from to start finish
+      before.gaps.items after.gaps.items)
   pub absent : OnOk outcome (LeavesAbsent reading parsing config from to start finish outcome
       before.is_watched (symbols_with after.absent config.symbols.now) after.ordinals)
 
@@ -304,12 +304,12 @@ pub record IsConfigOf (settings : RunSettings) (config : ReplayConfig) : Type 0 
 -- for the periods that were kept.
 pub record PrintsAsked {R S F W : Type 0} (reading : Reading R) (parsing : Parsing S F)
     (Prints : Output R W) (settings : RunSettings) (is_watched : Bool) (from to : R)
-    (start finish : S) (before after : W) (old new : List MissingRange) (absent : List (List ℕ))
+    (start finish : S) (before after : W) (old new : List VenueGap) (absent : List (List ℕ))
     (ordinals : List ℕ) (late : ℕ) (outcome : Result (Unit {0}) (ReplayStop F)) : Type 0 where
   pub config : ReplayConfig
   pub is : IsConfigOf settings config
   pub prints : Prints S F parsing config from to start finish before after outcome
-  pub lacks : OnOk outcome (AppendsLacks reading parsing config from to start finish old new)
+  pub gaps : OnOk outcome (AppendsLacks reading parsing config from to start finish old new)
   pub absent_are : OnOk outcome
       (LeavesAbsent reading parsing config from to start finish outcome is_watched absent
       ordinals)

@@ -6,7 +6,7 @@ use Rattle.event_sinks.specs.declared.replay_stop.ReplayStop.{ReplayStop}
 use Rattle.text_out.specs.Devices.{Writing, Wrote}
 use Rattle.capture_records.specs.Formats.{Parsing}
 use Rattle.text_out.specs.StandardError.{Says, SaysEach}
-use Rattle.event_sinks.specs.declared.lack.MissingRange.{MissingRange}
+use Rattle.event_sinks.specs.declared.venue_gap.VenueGap.{VenueGap}
 use Rattle.run_settings.specs.declared.captured_line.CapturedLine.{CapturedLine}
 use Rattle.line_captures.specs.declared.bad_piece.BadPiece.{BadPiece}
 use Rattle.line_captures.specs.Conversions.{AnswersConversion}
@@ -23,7 +23,7 @@ use Rattle.nbbo_runs.specs.CaptureTexts.{capture_texts, is_timed_capture, late_t
 use Rattle.nbbo_runs.specs.Discovery.{Discovered}
 use Rattle.nbbo_runs.specs.Ending.{ending_status, of_any_sessions, own_end_texts, write_failed_text}
 use Rattle.nbbo_runs.specs.Hints.{hint_text}
-use Rattle.nbbo_runs.specs.Lacks.{tells_lacks, told_lacks}
+use Rattle.nbbo_runs.specs.ReportedGaps.{reports_gaps, reported_gaps}
 use Rattle.nbbo_runs.specs.NormaliseRuns.{Normalised}
 use Rattle.nbbo_runs.specs.OwnCaptures.{new_own_capture, own_capture_parsing}
 use Rattle.nbbo_runs.specs.Printing.{Output, PrintsAsked, output_asked}
@@ -48,17 +48,17 @@ pub record RunsOver {R W E S F : Type 0} (devices : Devices R W E) (parsing : Pa
     (before after : Streams R W E) (status : ℕ) : Type 0 where
   pub finish : S
   pub outcome : Result (Unit {0}) (ReplayStop F)
-  pub lacks : List MissingRange
+  pub gaps : List VenueGap
   pub absent : List (List ℕ)
   pub ordinals : List ℕ
   pub late : ℕ
   pub prints : PrintsAsked devices.reading parsing Prints settings
-      (tells_lacks settings terminals) before.input after.input start finish before.output
-      after.output [] lacks absent ordinals late outcome
+      (reports_gaps settings terminals) before.input after.input start finish before.output
+      after.output [] gaps absent ordinals late outcome
   pub says : SaysEach devices.telling
       (hint_text terminals.input ∷ symbol_hint settings
-      ∷ told_lacks outcome (tells_lacks settings terminals) lacks
-      ++ (told_absent outcome (tells_lacks settings terminals) absent
+      ∷ reported_gaps outcome (reports_gaps settings terminals) gaps
+      ++ (told_absent outcome (reports_gaps settings terminals) absent
       ++ (end_texts finish ordinals outcome ++ late_texts late)))
       before.errors after.errors
   pub ends : status ≡ ending_status outcome
@@ -95,7 +95,7 @@ abbrev pub RunsBy : {R W E : Type 0} (devices : Devices R W E) (Prints : Output 
     (settings : RunSettings) (terminals : Terminals) (before after : Streams R W E) (status : ℕ)
     → RunInput → Type 0
 RunsBy devices Prints settings terminals before after status Own =
-    RunsOwn devices Prints settings terminals before after status (tells_lacks settings terminals)
+    RunsOwn devices Prints settings terminals before after status (reports_gaps settings terminals)
 RunsBy devices Prints settings terminals before after status (Packets lines) =
     RunsWatched devices packet_parsing Prints is_timed_capture (of_any_sessions capture_texts)
     settings terminals

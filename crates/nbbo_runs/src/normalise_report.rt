@@ -2,14 +2,13 @@
 ghost use Rattle.text_out.specs.Members.{writing_of};
 ghost use Rattle.std.specs.Prelude.{◌≡◌, ◌++◌, [], Ok, flat_map};
 ghost use Rattle.text_out.specs.StandardError.{SaysEach};
-ghost use Rattle.event_sinks.specs.LackTexts.{messages_text};
 ghost use Rattle.nbbo_runs.specs.NormaliseReports.{begin_fault_texts, book_stop_texts, given_up_texts, normalise_end_texts, normalise_texts, own_messages_texts, resume_fault_texts, standing_texts, venue_count_texts, venue_line_texts, venue_report_texts};
 
 use crate::end_report::EndReport;
-use event_sinks::{MissingRange, write_lacks};
-use feed_types::VenueId;
+use event_sinks::{VenueGap, write_missing, write_venue_gaps};
+use feed_types::{MissingRange, VenueId};
 use itch_book::BookFault;
-use normalising::{GivenUp, MissingRun, NormaliseStop, Normalised, PacketCounts, VenueReport};
+use normalising::{NormaliseStop, Normalised, PacketCounts, VenueReport};
 use text_out::{TextOut, write_number, write_stderr};
 use venue_normaliser::{NormaliserFault, ResumeFault};
 
@@ -23,30 +22,17 @@ fn write_line<E: TextOut>(venue: VenueId, text: &str, errors: &mut E)
     write_stderr(text, errors);
 }
 
-/// What stands between a count of messages and the first of them.
-fn messages(count: u64) -> &'static str
-    ensures { result.now ≡ messages_text count }
-{
-    if count == 1 {
-        " message from "
-    } else {
-        " messages from "
-    }
-}
-
 /// Writes which messages are missing of a venue, and that it is quoted no more.
-fn write_given_up<E: TextOut>(gap: &GivenUp, errors: &mut E)
+fn write_given_up<E: TextOut>(gap: &VenueGap, errors: &mut E)
     ensures { SaysEach (writing_of E.TextOut) (given_up_texts gap.now) errors.old errors.new }
 {
     write_line(gap.venue, " lacks ", errors);
-    write_number(gap.count, errors);
-    write_stderr(messages(gap.count), errors);
-    write_number(gap.number, errors);
+    write_missing(gap.messages, errors);
     write_stderr(", and is quoted no more\n", errors);
 }
 
 /// Writes the gaps that were given up.
-fn write_gaps<E: TextOut>(gaps: &[GivenUp], errors: &mut E)
+fn write_gaps<E: TextOut>(gaps: &[VenueGap], errors: &mut E)
     ensures { SaysEach (writing_of E.TextOut)
         (flat_map given_up_texts gaps.now) errors.old errors.new }
 {
@@ -56,18 +42,13 @@ fn write_gaps<E: TextOut>(gaps: &[GivenUp], errors: &mut E)
 }
 
 /// Writes which messages are missing of a venue, if any are.
-fn write_standing<E: TextOut>(venue: VenueId, missing: Option<MissingRun>, errors: &mut E)
+fn write_standing<E: TextOut>(venue: VenueId, missing: Option<MissingRange>, errors: &mut E)
     ensures { SaysEach (writing_of E.TextOut) (standing_texts venue missing) errors.old errors.new }
 {
-    let Some(missing) = missing else {
+    let Some(messages) = missing else {
         return;
     };
-    let lack = MissingRange {
-        venue,
-        number: missing.number,
-        count: missing.count,
-    };
-    write_lacks(&[lack], errors);
+    write_venue_gaps(&[VenueGap { venue, messages }], errors);
 }
 
 /// Writes a count of a venue, unless it is 0.

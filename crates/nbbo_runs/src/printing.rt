@@ -16,7 +16,7 @@ ghost use Rattle.nbbo_runs.specs.Printing.{IsGapSink, IsSinkBefore, PrintedRows,
 
 use crate::config::{RunConfig, config_of};
 use crate::fed_sink::FedSink;
-use crate::lacks::is_packet_input;
+use crate::reported_gaps::is_packet_input;
 use crate::span_replay::replay_in_span;
 use crate::watched_sink::{Missing, replay_watched};
 use best_rows::RowStyle;
@@ -388,7 +388,7 @@ pub fn print<R: CaptureIn, F: RecordFormat, W: TextOut + Drop>(
         (output_asked
         (reading_of R.CaptureIn) (writing_of W.TextOut) settings.now)
         settings.now missing.old.is_watched input.old input.new format.old format.new
-        output result.output missing.old.lacks.items missing.new.lacks.items
+        output result.output missing.old.gaps.items missing.new.gaps.items
         (symbols_with missing.new.absent settings.now.feed.symbols.items) missing.new.ordinals
         result.late result.outcome }
 {

@@ -12,7 +12,7 @@ use crate::config::MAX_TURNS;
 use crate::end_report::EndReport;
 use crate::ending::status_of;
 use crate::hints::input_hint;
-use crate::lacks::{tell_lacks, tells_lacks};
+use crate::reported_gaps::{report_gaps, reports_gaps};
 use crate::own_capture::OwnCapture;
 use crate::printing::print;
 use crate::symbol_hint::symbol_hint;
@@ -69,10 +69,10 @@ fn run_over<R: CaptureIn, F: EndReport + Drop, W: TextOut + Drop, E: TextOut>(
 {
     write_stderr(input_hint(terminals.input), errors);
     write_stderr(symbol_hint(settings), errors);
-    let is_told = tells_lacks(settings, terminals);
+    let is_told = reports_gaps(settings, terminals);
     let mut missing = Missing::new(alloc, is_told);
     let printed = print(alloc, settings, &mut format, input, output, &mut missing);
-    tell_lacks(&printed.outcome, is_told, missing.lacks.as_slice(), errors);
+    report_gaps(&printed.outcome, is_told, missing.gaps.as_slice(), errors);
     let symbols = settings.feed.symbols.as_slice();
     tell_absent(&printed.outcome, is_told, symbols, &missing.absent, errors);
     format.write_end_report(&missing.ordinals, &printed.outcome, errors);
@@ -111,7 +111,7 @@ pub fn run_settings<R: CaptureIn, W: TextOut + Drop, E: TextOut>(
     match &settings.input {
         RunInput::Own => {
             let format = OwnCapture::new(venues);
-            if !tells_lacks(settings, terminals) {
+            if !reports_gaps(settings, terminals) {
                 return run_over(alloc, settings, terminals, format, input, output, errors);
             }
             let format = WatchedFormat::new(format, settings);

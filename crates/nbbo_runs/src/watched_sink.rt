@@ -11,7 +11,7 @@ ghost use Rattle.run_notes.specs.AbsentSymbols.{AreKeysOf, has_key, symbols_with
 
 use crate::named_sessions::{Ordinals, first_ordinals, note_renewal};
 use capture_records::RecordFormat;
-use event_sinks::{EventSink, MissingRange, ReplayStop, Replayed, ReplayedEvent, SinkStop};
+use event_sinks::{EventSink, VenueGap, ReplayStop, Replayed, ReplayedEvent, SinkStop};
 use feed_text::replay::ReplayConfig;
 use feed_types::SymbolName;
 use replay_run::replay;
@@ -75,8 +75,8 @@ impl<K: EventSink> EventSink for WatchedSink<K> {
 pub struct Missing {
     /// Whether symbols are watched.
     pub(crate) is_watched: bool,
-    /// The messages that venues lack.
-    pub(crate) lacks: Vec<MissingRange>,
+    /// The gaps of venues.
+    pub(crate) gaps: Vec<VenueGap>,
     /// The symbols of which no item came, where they are watched.
     pub(crate) absent: AbsentSymbols,
     /// The ordinals of the venues' last sessions.
@@ -90,7 +90,7 @@ impl Missing {
     {
         Missing {
             is_watched,
-            lacks: Vec::new(alloc),
+            gaps: Vec::new(alloc),
             absent: AbsentSymbols::none(alloc),
             ordinals: first_ordinals(),
         }
@@ -109,7 +109,7 @@ impl Missing {
 }
 
 /// Reads a capture of a format to its end, and gives a sink the events of its records
-/// ([`replay_run::replay`]). What each venue lacks at the end is appended to what is missing, and
+/// ([`replay_run::replay`]). The gap of each venue at the end is appended to what is missing, and
 /// the symbols of which no item came are left in it, where symbols are watched, and the ordinals
 /// of the venues' last sessions.
 #[inline(always)]
@@ -129,11 +129,11 @@ pub(crate) fn replay_watched<R: CaptureIn, F: RecordFormat, K: EventSink>(
         (record { takes = K.takes; fails = K.fails }) K.is_shown
         config.now (facts_of_run config.now) reader.old reader.new format.old format.new
         sink result.sink result.outcome }
-    ensures lacks { OnOk result.outcome (AppendsLacks
+    ensures gaps { OnOk result.outcome (AppendsLacks
         (reading_of R.CaptureIn)
         (record { reads = F.reads; wants = F.wants; is_bad = F.is_bad; is_whole = F.is_whole })
         config.now reader.old reader.new format.old format.new
-        missing.old.lacks.items missing.new.lacks.items) }
+        missing.old.gaps.items missing.new.gaps.items) }
     ensures absent { OnOk result.outcome (LeavesAbsent
         (reading_of R.CaptureIn)
         (record { reads = F.reads; wants = F.wants; is_bad = F.is_bad; is_whole = F.is_whole })
@@ -155,7 +155,7 @@ pub(crate) fn replay_watched<R: CaptureIn, F: RecordFormat, K: EventSink>(
     let Replayed {
         sink: watched,
         outcome,
-    } = replay(alloc, config, format, reader, watched, &mut missing.lacks);
+    } = replay(alloc, config, format, reader, watched, &mut missing.gaps);
     missing.ordinals = watched.ordinals;
     let WatchedSink { sink, absent, .. } = watched;
     missing.absent = absent;

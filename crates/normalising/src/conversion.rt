@@ -8,10 +8,10 @@ use crate::begin_fault::BeginFault;
 use crate::normalise_stop::NormaliseStop;
 use crate::normalised_feed::NormalisedFeed;
 use crate::normalised_venues::NormalisedVenues;
-use crate::venue_report::{GivenUp, VenueReport};
+use crate::venue_report::VenueReport;
 use crate::venue_stop::VenueStop;
 use capture_records::{CAPTURE_ROOM, ReadBuffer, ReadStep, RecordFormat, Step, is_complete};
-use event_sinks::ReplayStop;
+use event_sinks::{ReplayStop, VenueGap};
 use std::alloc::Global;
 use text_out::{CaptureIn, TextOut};
 
@@ -19,8 +19,8 @@ use text_out::{CaptureIn, TextOut};
 #[derive(Drop)]
 pub struct Normalised<F> {
     pub outcome: Result<(), NormaliseStop<F>>,
-    /// What was given up, in the order of its giving up.
-    pub given_up: Vec<GivenUp>,
+    /// The gaps that were given up, in that order. Each ended what is put out of its session.
+    pub given_up: Vec<VenueGap>,
     /// The reports of all venues, in their order; none where the run wasn't begun.
     pub reports: Vec<VenueReport>,
 }

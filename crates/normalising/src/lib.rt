@@ -46,4 +46,4 @@ pub use normalised_feed::NormalisedFeed;
 pub use output_form::OutputForm;
 pub use packet_counts::PacketCounts;
 pub use packet_origin::PacketOrigin;
-pub use venue_report::{GivenUp, MissingRun, VenueReport};
+pub use venue_report::VenueReport;

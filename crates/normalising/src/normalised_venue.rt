@@ -16,10 +16,11 @@ use crate::output_packets::OutputPackets;
 use crate::packet_counts::PacketCounts;
 use crate::packet_origin::PacketOrigin;
 use crate::standing_since::StandingSince;
-use crate::venue_report::{GivenUp, MissingRun, VenueReport};
+use crate::venue_report::VenueReport;
 use crate::venue_stop::VenueStop;
 use capture_writing::CaptureTime;
-use feed_types::{LineId, Numbered, SessionName};
+use event_sinks::VenueGap;
+use feed_types::{LineId, MissingRange, Numbered, SessionName};
 use itch_book::BookFault;
 use line_arbiter::{LineFault, Outcome};
 use mold_packet::{Body, Kind, Packet};
@@ -110,9 +111,9 @@ impl NormalisedVenue {
     pub(crate) fn report(&self) -> VenueReport {
         let venue = self.normaliser.venue();
         let missing = match self.normaliser.gap() {
-            Some(gap) if !self.normaliser.has_given_up() => Some(MissingRun {
-                number: gap.number,
-                count: gap.count,
+            Some(gap) if !self.normaliser.has_given_up() => Some(MissingRange {
+                first: gap.number,
+                count: u64::from(gap.count),
             }),
             _ => None,
         };
@@ -292,7 +293,7 @@ impl NormalisedVenue {
         time: CaptureTime,
         output: &mut OutputPackets<'_>,
         writer: &mut W,
-    ) -> Result<Option<GivenUp>, VenueStop>
+    ) -> Result<Option<VenueGap>, VenueStop>
         ensures skips { (feed : NormalisedFeed) (place : ℕ) (h : NormalisedHistory)
             → FollowsVenue feed place self.old h → output.old.page.form ≡ feed.form
             → TakesAtVenue (writing_of W.TextOut) feed time place
@@ -303,10 +304,12 @@ impl NormalisedVenue {
         let first = self.normaliser.status().front.saturating_add(1);
         let was_quoted = !self.normaliser.has_given_up();
         if self.skip_to(number, time, output, writer)? && was_quoted {
-            return Ok(Some(GivenUp {
+            return Ok(Some(VenueGap {
                 venue: self.normaliser.venue(),
-                number: first,
-                count: number.saturating_sub(first),
+                messages: MissingRange {
+                    first,
+                    count: number.saturating_sub(first),
+                },
             }));
         }
         Ok(None)

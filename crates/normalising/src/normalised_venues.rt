@@ -13,11 +13,11 @@ use crate::begin_fault::BeginFault;
 use crate::normalised_feed::NormalisedFeed;
 use crate::normalised_venue::NormalisedVenue;
 use crate::output_packets::OutputPackets;
-use crate::venue_report::{GivenUp, VenueReport};
+use crate::venue_report::VenueReport;
 use crate::venue_stop::VenueStop;
 use capture_records::Record;
 use capture_writing::CaptureTime;
-use event_sinks::SinkStop;
+use event_sinks::{SinkStop, VenueGap};
 use feed_types::{LineId, SessionName, VenueId};
 use itch_book::BookFault;
 use mold_packet::{Packet, read_packet};
@@ -37,7 +37,7 @@ pub(crate) struct NormalisedVenues<'a> {
     pub(crate) output: OutputPackets<'a>,
     /// Which of the next sessions have begun, by their places in the list.
     begun: Vec<bool>,
-    pub(crate) given_up: Vec<GivenUp>,
+    pub(crate) given_up: Vec<VenueGap>,
     /// The time of the latest record that has one.
     pub(crate) latest: CaptureTime,
     /// The venue that was given something last.
@@ -214,7 +214,7 @@ impl<'a> NormalisedVenues<'a> {
     }
 
     /// Notes a gap that was given up.
-    fn note(&mut self, given_up: Option<GivenUp>) -> Result<(), BookFault>
+    fn note(&mut self, given_up: Option<VenueGap>) -> Result<(), BookFault>
         ensures { IsNoted self.old self.new }
     {
         let Some(given_up) = given_up else {

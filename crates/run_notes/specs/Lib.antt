@@ -1,4 +1,4 @@
 pub mod AbsentLaws
 pub mod AbsentSymbols
-pub mod NamedLacks
+pub mod NamedGaps
 pub mod SessionNames

@@ -1,25 +1,25 @@
 -- What is reported of the venues in ITCH. The texts are this project's own.
 use Rattle.std.specs.Prelude.{ℕ, List, [], ◌∷◌, ◌++◌, Option, Some, None, codes, decimal, flat_map}
-use Rattle.event_sinks.specs.LackTexts.{messages_text}
-use Rattle.run_notes.specs.NamedLacks.{named_lacking_texts}
+use Rattle.event_sinks.specs.VenueGapTexts.{messages_text}
+use Rattle.run_notes.specs.NamedGaps.{named_venue_texts}
 use Rattle.run_settings.specs.VenueNames.{venue_text}
 use Rattle.run_settings.specs.declared.venue_names.VenueNames.{VenueNames}
-use Rattle.event_sinks.specs.VenueLacks.{lack_by}
-use Rattle.event_sinks.specs.declared.lack.MissingRange.{MissingRange}
+use Rattle.event_sinks.specs.VenueGaps.{venue_gap}
+use Rattle.event_sinks.specs.declared.venue_gap.VenueGap.{VenueGap}
 use Rattle.itch_book.specs.declared.fault.BookFault.{BookFault}
 use Rattle.itch_book.specs.declared.fault.BookFault.TheVariants as faults
 use Rattle.itch_lines.specs.declared.venue_end.ItchVenueEnd.{ItchVenueEnd}
 use Rattle.itch_lines.specs.declared.venue_end.MessageRun.{MessageRun}
 
 -- what these venues lack, each its gap that stands, if one does
-abbrev pub itch_lacks : List ItchVenueEnd → List MissingRange
-itch_lacks ends = flat_map (λ e. lack_by e.venue e.missing) ends
+abbrev pub itch_lacks : List ItchVenueEnd → List VenueGap
+itch_lacks ends = flat_map (λ e. venue_gap e.venue e.missing) ends
 
 -- the text of messages that were given up: nothing past them was quoted
 abbrev pub unquoted_texts : VenueNames → ℕ → Option MessageRun → List (List ℕ)
 unquoted_texts names venue None = []
 unquoted_texts names venue (Some run) =
-    named_lacking_texts names venue
+    named_venue_texts names venue
     ++ (decimal run.count ∷ messages_text run.count ∷ decimal run.number
     ∷ codes ", and is quoted no more\n" ∷ [])
 

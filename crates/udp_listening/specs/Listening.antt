@@ -4,7 +4,7 @@ use Rattle.feed_types.specs.declared.journal.Entry.{Entry}
 use Rattle.feed_types.specs.declared.line.LineId.{LineId}
 use Rattle.feed_types.specs.PerLines.{on_line}
 use Rattle.text_out.specs.Devices.{Writing, Wrote}
-use Rattle.event_sinks.specs.declared.lack.MissingRange.{MissingRange}
+use Rattle.event_sinks.specs.declared.venue_gap.VenueGap.{VenueGap}
 use Rattle.event_sinks.specs.Lines.{venue_line}
 use Rattle.best_rows.specs.NoticeRows.{IsTextOf, notice_row}
 use Rattle.best_rows.specs.declared.style.RowStyle.{RowStyle}
@@ -16,7 +16,7 @@ use Rattle.live_feed.specs.subscriber.Logs.{SubscriberLogState}
 use Rattle.live_feed.specs.settle.Settlements.{SettlementState, VenueEndState, SubscriberEndState}
 use Rattle.text_out.specs.StandardError.{Says, SaysEach}
 use Rattle.run_notes.specs.AbsentSymbols.{absent_texts, unchanged_texts}
-use Rattle.run_notes.specs.NamedLacks.{named_lack_texts}
+use Rattle.run_notes.specs.NamedGaps.{named_gap_texts}
 use Rattle.run_watches.specs.News.{line_end_texts}
 use Rattle.run_watches.specs.RunLines.{listened_run}
 use Rattle.run_watches.specs.RunNews.{SaysOfRun}
@@ -194,7 +194,7 @@ abbrev pub report_texts : ListenReport → List (List ℕ)
 report_texts report =
     (flat_map (failed_texts report.names) report.failed.items ++ stop_texts report.stopped)
     ++ ((flat_map (read_out_texts report.names) report.read_out.items
-    ++ flat_map (named_lack_texts report.names) report.lacking.items)
+    ++ flat_map (named_gap_texts report.names) report.lacking.items)
     ++ (flat_map (ended_texts report.names) report.ended.items
     ++ ((absent_texts report.absent ++ unchanged_texts report.unchanged)
     ++ flat_map (itch_texts report.names) report.itch.items)))
@@ -297,7 +297,7 @@ ListensToEnd writing telling style (Err fault) before after silent told status =
     × Says telling (listen_fault_text fault) silent told × (status ≡ 1)
 
 -- a venue lacks messages
-abbrev pub lacks_any : List MissingRange → Bool
+abbrev pub lacks_any : List VenueGap → Bool
 lacks_any [] = false
 lacks_any (lack ∷ more) = true
 

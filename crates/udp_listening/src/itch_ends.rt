@@ -1,16 +1,16 @@
 //! What the venues of a run in ITCH have come to.
 ghost use Rattle.text_out.specs.Members.{writing_of};
 ghost use Rattle.std.specs.Prelude.{◌≡◌, ◌++◌, [], IfOk, OnOk, flat_map};
-ghost use Rattle.event_sinks.specs.LackTexts.{messages_text};
-ghost use Rattle.event_sinks.specs.VenueLacks.{lack_by};
+ghost use Rattle.event_sinks.specs.VenueGapTexts.{messages_text};
+ghost use Rattle.event_sinks.specs.VenueGaps.{venue_gap};
 ghost use Rattle.text_out.specs.StandardError.{SaysEach};
 ghost use Rattle.udp_listening.specs.ItchEnds.{book_fault_text, book_fault_texts, itch_lacks, itch_texts, unquoted_texts};
 
-use event_sinks::MissingRange;
+use event_sinks::VenueGap;
 use feed_types::VenueId;
 use itch_book::BookFault;
 use itch_lines::{ItchVenueEnd, MessageRun, VenueShare};
-use run_notes::{write_named_lacking, write_venue_name};
+use run_notes::{write_named_venue, write_venue_name};
 use run_settings::{ListenSettings, VenueNames};
 use std::alloc::{AllocError, Global};
 use text_out::{TextOut, write_number, write_stderr};
@@ -37,19 +37,19 @@ pub(crate) fn itch_ends(
 }
 
 /// Appends what a venue lacks, if it lacks anything.
-fn append_lack(lacking: &mut Vec<MissingRange>, end: &ItchVenueEnd) -> Result<(), AllocError>
+fn append_lack(lacking: &mut Vec<VenueGap>, end: &ItchVenueEnd) -> Result<(), AllocError>
     ensures { OnOk result (lacking.new.items
-        ≡ lacking.old.items ++ lack_by end.now.venue end.now.missing) }
+        ≡ lacking.old.items ++ venue_gap end.now.venue end.now.missing) }
 {
     if let Some(gap) = &end.missing {
-        lacking.push(MissingRange::of(end.venue, gap))?;
+        lacking.push(VenueGap::of(end.venue, gap))?;
     }
     Ok(())
 }
 
 /// Appends what the venues lack, in order, of each that lacks anything.
 pub(crate) fn append_itch_lacks(
-    lacking: &mut Vec<MissingRange>,
+    lacking: &mut Vec<VenueGap>,
     ends: &[ItchVenueEnd],
 ) -> Result<(), AllocError>
     ensures { OnOk result (lacking.new.items ≡ lacking.old.items ++ itch_lacks ends.now) }
@@ -84,7 +84,7 @@ fn write_unquoted<E: TextOut>(
     let Some(run) = given_up else {
         return;
     };
-    write_named_lacking(names, venue, errors);
+    write_named_venue(names, venue, errors);
     write_number(run.count, errors);
     write_stderr(messages(run.count), errors);
     write_number(run.number, errors);

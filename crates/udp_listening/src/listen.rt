@@ -20,7 +20,7 @@ use crate::sources::lines_over;
 use crate::summary::summary_of;
 use crate::unchanged::noted_symbols;
 use best_rows::RowStyle;
-use event_sinks::MissingRange;
+use event_sinks::VenueGap;
 use feed_types::{LineId, VenueId};
 use live_feed::Stop;
 use run_settings::ListenSettings;
@@ -127,7 +127,7 @@ fn print_end<C: Clock, W: TextOut, E: TextOut>(
 }
 
 /// Whether a venue lacks messages.
-fn lacks_any(lacking: &[MissingRange]) -> bool
+fn lacks_any(lacking: &[VenueGap]) -> bool
     ensures { result ≡ lacks_any lacking.now }
 {
     !lacking.is_empty()

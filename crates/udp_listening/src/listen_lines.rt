@@ -3,7 +3,7 @@ ghost use Rattle.std.specs.Prelude.{◌≡◌, ◌++◌, flat_map};
 ghost use Rattle.text_out.specs.Members.{writing_of};
 ghost use Rattle.text_out.specs.StandardError.{SaysEach};
 ghost use Rattle.run_notes.specs.AbsentSymbols.{absent_texts, unchanged_texts};
-ghost use Rattle.run_notes.specs.NamedLacks.{named_lack_texts};
+ghost use Rattle.run_notes.specs.NamedGaps.{named_gap_texts};
 ghost use Rattle.udp_listening.specs.ItchEnds.{itch_texts};
 ghost use Rattle.udp_listening.specs.Listening.{ended_texts, failed_texts, read_out_texts, report_texts, stop_text, stop_texts};
 
@@ -11,7 +11,7 @@ use crate::itch_ends::write_itch_ends;
 use crate::listen_report::{EndedLine, ListenReport};
 use feed_types::{LineId, VenueId};
 use live_feed::Stop;
-use run_notes::write_named_lacks;
+use run_notes::write_named_gaps;
 use run_settings::VenueNames;
 use run_watches::{LineChange, write_line_end};
 use text_out::{TextOut, write_number, write_stderr};
@@ -76,11 +76,11 @@ fn write_faults<E: TextOut>(report: &ListenReport, errors: &mut E)
 fn write_gaps<E: TextOut>(report: &ListenReport, errors: &mut E)
     ensures { SaysEach (writing_of E.TextOut)
         (flat_map (read_out_texts report.now.names) report.now.read_out.items
-        ++ flat_map (named_lack_texts report.now.names) report.now.lacking.items)
+        ++ flat_map (named_gap_texts report.now.names) report.now.lacking.items)
         errors.old errors.new }
 {
     write_each_read_out(&report.names, report.read_out.as_slice(), errors);
-    write_named_lacks(&report.names, report.lacking.as_slice(), errors);
+    write_named_gaps(&report.names, report.lacking.as_slice(), errors);
 }
 
 /// Writes with which sessions lines ended.

@@ -12,7 +12,7 @@ use crate::listening::ListenFault;
 use crate::settled_lacks::settled_lacks;
 use crate::sources::ListenSource;
 use crate::unchanged::settled_unchanged;
-use event_sinks::MissingRange;
+use event_sinks::VenueGap;
 use feed_types::{LineId, SessionName, VenueId};
 use itch_lines::{ItchVenueEnd, VenueShare};
 use live_feed::{FeedReport, LineReport, Settlement, Stop};
@@ -38,7 +38,7 @@ pub struct ListenReport {
     /// The lines that have read as many datagrams as they may, in the order of the settings.
     pub read_out: Vec<(VenueId, LineId)>,
     /// What is missing, of each venue that lacks anything.
-    pub lacking: Vec<MissingRange>,
+    pub lacking: Vec<VenueGap>,
     /// The lines that an end of session has ended, in the order of the settings, where these have
     /// further options.
     pub ended: Vec<EndedLine>,
@@ -61,7 +61,7 @@ fn all_lacks(
     alloc: Global,
     settlement: &Settlement,
     itch: &[ItchVenueEnd],
-) -> Result<Vec<MissingRange>, AllocError>
+) -> Result<Vec<VenueGap>, AllocError>
     ensures { IfOk result (λ lacking.
         lacking.items ≡ settled_lacks settlement.now ++ itch_lacks itch.now) }
 {

@@ -1,25 +1,25 @@
 //! What the venues of a settled feed lack.
 ghost use Rattle.std.specs.Prelude.{◌≡◌, ◌<◌, ◌++◌, IfOk, IfSome, OnOk, length, slice_get};
-ghost use Rattle.event_sinks.specs.VenueLacks.{lack_by};
+ghost use Rattle.event_sinks.specs.VenueGaps.{venue_gap};
 ghost use Rattle.udp_listening.specs.SettledLacks.{settled_lacks};
 
-use event_sinks::MissingRange;
+use event_sinks::VenueGap;
 use feed_types::{MAX_VENUES, VenueId};
 use live_feed::Settlement;
 use std::alloc::{AllocError, Global};
 
 /// Appends what the venue lacks, if it lacks anything. It is below the number of venues.
 fn append_lack(
-    lacking: &mut Vec<MissingRange>,
+    lacking: &mut Vec<VenueGap>,
     settlement: &Settlement,
     venue: VenueId,
 ) -> Result<(), AllocError>
     requires { venue < length settlement.now.venues }
     ensures { OnOk result (IfSome (slice_get settlement.now.venues venue)
-        (λ v. lacking.new.items ≡ lacking.old.items ++ lack_by venue v.gap)) }
+        (λ v. lacking.new.items ≡ lacking.old.items ++ venue_gap venue v.gap)) }
 {
     if let Some(gap) = settlement.gap(venue) {
-        lacking.push(MissingRange::of(venue, &gap))?;
+        lacking.push(VenueGap::of(venue, &gap))?;
     }
     Ok(())
 }
@@ -28,7 +28,7 @@ fn append_lack(
 pub fn settled_lacks(
     alloc: Global,
     settlement: &Settlement,
-) -> Result<Vec<MissingRange>, AllocError>
+) -> Result<Vec<VenueGap>, AllocError>
     ensures { IfOk result (λ lacking. lacking.items ≡ settled_lacks settlement.now) }
 {
     let mut lacking = Vec::new(alloc);

@@ -3,7 +3,7 @@ use Rattle.std.proofs.lemmas.Option.{slice_get-get_or}
 use Rattle.text_out.specs.Devices.{Writing}
 use Rattle.text_out.specs.Members.{writing_of}
 use Rattle.text_out.specs.laws.SaidTexts.{texts_more}
-use Rattle.normalising.specs.declared.venue_report.GivenUp.{GivenUp}
+use Rattle.event_sinks.specs.declared.venue_gap.VenueGap.{VenueGap}
 use Rattle.nbbo_runs.specs.NormaliseReports.{given_up_texts}
 use Rattle.nbbo_runs.proofs.normalise_report.write_gaps.Goals as goal
 
@@ -16,5 +16,5 @@ loop-gap-preserved g c =
     λ t says. c.loop-gap.invariant t
     (texts_more w given_up_texts gaps i x c.loop-gap.errors c.write_given_up.new.errors t
     (slice_get-get_or gaps i x c.loop-gap-test.true
-    ∙ ap (λ (y : GivenUp). Some y) (sym c.gap-item.is))
+    ∙ ap (λ (y : VenueGap). Some y) (sym c.gap-item.is))
     c.write_given_up.ensures says)

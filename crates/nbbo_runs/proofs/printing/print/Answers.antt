@@ -17,7 +17,7 @@ returns-in-Lines g c = rw c.without_periods.ensures (record {
   config = c.config_of-config.result.replay;
   is = c.config_of-config.ensures.replay;
   prints = rw (← c.config_of-config.ensures.span, c.in-Lines.is) c.print_lines.ensures.prints;
-  lacks = c.print_lines.ensures.missing.lacks;
+  gaps = c.print_lines.ensures.missing.gaps;
   absent_are = rw (← c.config_of-config.ensures.replay.symbols)
       c.print_lines.ensures.missing.absent;
   late_is = rw c.in-Lines.is refl;
@@ -42,7 +42,7 @@ returns-in-Bests g c =
         ← c.config_of-config.ensures.span,
         c.in-Bests.is,
       ) printed.prints;
-      lacks = printed.missing.lacks;
+      gaps = printed.missing.gaps;
       absent_are = rw (← c.config_of-config.ensures.replay.symbols) printed.missing.absent;
       late_is = rw c.in-Bests.is refl;
     })
@@ -60,7 +60,7 @@ returns-in-Gaps g c =
       config = c.config_of-config.result.replay;
       is = c.config_of-config.ensures.replay;
       prints = rw (← c.config_of-config.ensures.span, c.in-Gaps.is) printed.prints;
-      lacks = printed.missing.lacks;
+      gaps = printed.missing.gaps;
       absent_are = rw (← c.config_of-config.ensures.replay.symbols) printed.missing.absent;
       late_is = rw c.in-Gaps.is refl;
     })
@@ -71,7 +71,7 @@ returns-in-Periods g c = record {
   is = c.config_of-config.ensures.replay;
   prints = rw (← c.config_of-config.ensures.span, c.in-Periods.is)
       c.print_periods.ensures.printed.prints;
-  lacks = c.print_periods.ensures.printed.missing.lacks;
+  gaps = c.print_periods.ensures.printed.missing.gaps;
   absent_are = rw (← c.config_of-config.ensures.replay.symbols)
       c.print_periods.ensures.printed.missing.absent;
   late_is = rw (← c.config_of-config.ensures.span, c.in-Periods.is)
@@ -100,7 +100,7 @@ returns-in-BestTimes g c =
       config = config;
       is = c.config_of-config.ensures.replay;
       prints = rw (← c.config_of-config.ensures.span, c.in-BestTimes.is) printed.prints;
-      lacks = printed.missing.lacks;
+      gaps = printed.missing.gaps;
       absent_are = rw (← c.config_of-config.ensures.replay.symbols) printed.missing.absent;
       late_is = rw c.in-BestTimes.is refl;
     })
@@ -114,7 +114,7 @@ returns-in-Stats g c = rw c.without_periods-in-Stats.ensures (record {
     ← c.config_of-config.ensures.span,
     c.in-Stats.is,
   ) c.print_stats.ensures.prints;
-  lacks = c.print_stats.ensures.missing.lacks;
+  gaps = c.print_stats.ensures.missing.gaps;
   absent_are = rw (← c.config_of-config.ensures.replay.symbols)
       c.print_stats.ensures.missing.absent;
   late_is = rw c.in-Stats.is refl;

@@ -70,7 +70,7 @@ pub returns-in-Err-clause-printed : goal.returns-in-Err-clause-printed
 returns-in-Err-clause-printed g c =
     rw (c.without_periods.ensures, c.without_memory.ensures.outcome) (record {
       prints = (refl, refl, c.without_memory.ensures.output ∙ c.in-Err.ensures.refused);
-      missing = record { lacks = tt; absent = tt };
+      missing = record { gaps = tt; absent = tt };
     })
 
 pub returns-in-Err-clause-late : goal.returns-in-Err-clause-late

@@ -33,5 +33,5 @@ returns-in-Ok g c = λ kind output writes back.
 pub returns-in-Err : goal.returns-in-Err
 returns-in-Err g c = λ kind output writes back. rw c.without_memory.ensures.outcome (record {
   prints = (refl, refl, c.without_memory.ensures.output ∙ (rw c.in-Err.is at back));
-  missing = record { lacks = tt; absent = tt };
+  missing = record { gaps = tt; absent = tt };
 })

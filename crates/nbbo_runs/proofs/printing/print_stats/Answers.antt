@@ -24,7 +24,7 @@ returns-in_default g c = record {
     prints = c.without_memory.ensures.output;
     ends = c.without_memory.ensures.outcome;
   };
-  missing = rw c.without_memory.ensures.outcome (record { lacks = tt; absent = tt });
+  missing = rw c.without_memory.ensures.outcome (record { gaps = tt; absent = tt });
 }
 
 -- what takes the events of statistics

@@ -1,6 +1,6 @@
 use Rattle.std.proofs.Common.{ℕ, List, ◌++◌, ◌∙◌, subst}
 use Rattle.std.specs.Prelude.{Bool}
-use Rattle.event_sinks.specs.declared.lack.MissingRange.{MissingRange}
+use Rattle.event_sinks.specs.declared.venue_gap.VenueGap.{VenueGap}
 use Rattle.text_out.specs.Devices.{Reading, Writing}
 use Rattle.text_out.specs.Members.{reading_of, writing_of}
 use Rattle.capture_records.specs.Formats.{Parsing}
@@ -9,10 +9,10 @@ use Rattle.text_out.specs.laws.SaidTexts.{says_each}
 use Rattle.nbbo_runs.specs.AbsentSymbols.{told_absent}
 use Rattle.run_notes.specs.AbsentSymbols.{symbols_with}
 use Rattle.nbbo_runs.specs.CaptureTexts.{late_texts}
-use Rattle.nbbo_runs.specs.Lacks.{tells_lacks, told_lacks}
+use Rattle.nbbo_runs.specs.ReportedGaps.{reports_gaps, reported_gaps}
 use Rattle.nbbo_runs.specs.Printing.{PrintsAsked, output_asked}
 use Rattle.nbbo_runs.specs.Timeless.{timeless_texts}
-use Rattle.nbbo_runs.proofs.SaidLacks.{tells_absent, tells_items}
+use Rattle.nbbo_runs.proofs.SaidGaps.{tells_absent, tells_items}
 use Rattle.nbbo_runs.proofs.runs.run_over.Goals as goal
 
 pub returns : goal.returns
@@ -29,20 +29,20 @@ returns g c =
     let settings = c.args.settings.now in
     let outcome = c.print-printed.result.outcome in
     let missing = c.print-printed.new.missing in
-    let lacks = missing.lacks.items in
+    let gaps = missing.gaps.items in
     let symbols = settings.feed.symbols.items in
     let absent = symbols_with missing.absent symbols in
     let finish = c.print-printed.new.format in
     let errors_before = c.args.errors.now in
     let waited = c.write_stderr.new.errors in
     let hinted = c.write_stderr-2.new.errors in
-    let lacking = c.tell_lacks.new.errors in
+    let lacking = c.report_gaps.new.errors in
     let said = c.tell_absent.new.errors in
     let told = c.write_end_report.new.errors in
     let hinted_last = c.tell_timeless.new.errors in
     let end = c.write_late.new.errors in
     let late = c.print-printed.result.late in
-    let due = tells_lacks settings c.args.terminals in
+    let due = reports_gaps settings c.args.terminals in
     let ordinals = missing.ordinals in
     let texts = g.F.EndReport.end_texts finish ordinals outcome in
     let timeless = timeless_texts settings (g.F.EndReport.is_timed finish) outcome in
@@ -50,21 +50,21 @@ returns g c =
     record {
       finish = finish;
       outcome = outcome;
-      lacks = lacks;
+      gaps = gaps;
       absent = absent;
       ordinals = ordinals;
       late = late;
-      prints = subst (λ (old : List MissingRange). PrintsAsked reading parsing
+      prints = subst (λ (old : List VenueGap). PrintsAsked reading parsing
           (output_asked reading writing settings) settings due
           c.args.input.now c.print-printed.new.input c.args.format finish c.args.output
-          c.print-printed.result.output old lacks absent ordinals late outcome)
-          c.new-missing.ensures.lacks
+          c.print-printed.result.output old gaps absent ordinals late outcome)
+          c.new-missing.ensures.gaps
           (subst (λ (is_watched : Bool). PrintsAsked reading parsing
           (output_asked reading writing settings) settings is_watched
           c.args.input.now c.print-printed.new.input c.args.format finish c.args.output
-          c.print-printed.result.output c.new-missing.result.lacks.items lacks absent
+          c.print-printed.result.output c.new-missing.result.gaps.items gaps absent
           ordinals late outcome)
-          (c.new-missing.ensures.watched ∙ c.tells_lacks-is_told.ensures)
+          (c.new-missing.ensures.watched ∙ c.reports_gaps-is_told.ensures)
           c.print-printed.ensures);
       says = (
         waited,
@@ -74,14 +74,14 @@ returns g c =
           hinted,
           subst (λ (text : List ℕ). Says telling text waited hinted) c.symbol_hint.ensures
               c.write_stderr-2.ensures,
-          says_each telling (told_lacks outcome due lacks)
+          says_each telling (reported_gaps outcome due gaps)
               (told_absent outcome due absent ++ (end_texts ++ late_texts late)) hinted lacking end
-              (tells_items telling outcome _ due _ lacks hinted lacking
-              c.tells_lacks-is_told.ensures c.as_slice.ensures.value c.tell_lacks.ensures)
+              (tells_items telling outcome _ due _ gaps hinted lacking
+              c.reports_gaps-is_told.ensures c.as_slice.ensures.value c.report_gaps.ensures)
               (says_each telling (told_absent outcome due absent) (end_texts ++ late_texts late)
               lacking said end
               (tells_absent telling outcome _ due _ symbols missing.absent lacking said
-              c.tells_lacks-is_told.ensures c.as_slice-symbols.ensures.value c.tell_absent.ensures)
+              c.reports_gaps-is_told.ensures c.as_slice-symbols.ensures.value c.tell_absent.ensures)
               (says_each telling end_texts (late_texts late) said hinted_last end
               (says_each telling texts timeless said told hinted_last c.write_end_report.ensures
               (subst (λ (timed : Bool). SaysEach telling (timeless_texts settings timed outcome)

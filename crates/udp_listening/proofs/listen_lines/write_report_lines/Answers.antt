@@ -1,7 +1,7 @@
 use Rattle.std.proofs.Common.{flat_map, ◌++◌}
 use Rattle.text_out.specs.Devices.{Writing}
 use Rattle.text_out.specs.Members.{writing_of}
-use Rattle.run_notes.specs.NamedLacks.{named_lack_texts}
+use Rattle.run_notes.specs.NamedGaps.{named_gap_texts}
 use Rattle.text_out.specs.laws.SaidTexts.{says_each}
 use Rattle.run_notes.specs.AbsentSymbols.{absent_texts, unchanged_texts}
 use Rattle.udp_listening.specs.ItchEnds.{itch_texts}
@@ -13,7 +13,7 @@ returns g c =
     let w : Writing g.row.E.Denot = writing_of g.E.TextOut in
     let r = c.args.report.now in
     let gaps = flat_map (read_out_texts r.names) r.read_out.items
-    ++ flat_map (named_lack_texts r.names) r.lacking.items in
+    ++ flat_map (named_gap_texts r.names) r.lacking.items in
     let symbols = (absent_texts r.absent ++ unchanged_texts r.unchanged)
     ++ flat_map (itch_texts r.names) r.itch.items in
     let ends = flat_map (ended_texts r.names) r.ended.items ++ symbols in

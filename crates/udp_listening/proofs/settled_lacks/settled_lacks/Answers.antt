@@ -2,7 +2,7 @@ use Rattle.std.proofs.Common.{◌≡◌, ℕ, suc, ◌+◌, ◌++◌, IfSome, le
 use Rattle.std.specs.Prelude.{slice_get}
 use Rattle.std.proofs.lemmas.List.{take_min}
 use Rattle.feed_types.specs.ListLaws.{get_within}
-use Rattle.event_sinks.specs.VenueLacks.{lack_by}
+use Rattle.event_sinks.specs.VenueGaps.{venue_gap}
 use Rattle.live_feed.specs.settle.Settlements.{VenueEndState}
 use Rattle.udp_listening.specs.SettledLacks.{lacks_from}
 use Rattle.udp_listening.proofs.Lacks.{lacks_more}
@@ -24,8 +24,8 @@ loop-place-preserved c =
     let next : place + 1 ≡ suc place = omega arith in
     let here : 0 + place ≡ place = omega arith in
     one
-    ∙ ap (λ l. l ++ lack_by place there.0.gap) c.loop-place.invariant
-    ∙ ap (λ (n : ℕ). lacks_from 0 (take place venues) ++ lack_by n there.0.gap) (sym here)
+    ∙ ap (λ l. l ++ venue_gap place there.0.gap) c.loop-place.invariant
+    ∙ ap (λ (n : ℕ). lacks_from 0 (take place venues) ++ venue_gap n there.0.gap) (sym here)
     ∙ sym (lacks_more 0 place venues there.0 there.1)
     ∙ ap (λ (n : ℕ). lacks_from 0 (take n venues)) (sym next)
 

@@ -1,11 +1,12 @@
 use Rattle.std.proofs.Common.{◌≡◌, ℕ, [], ◌∷◌, ◌++◌, Option, Some, None, append-nil, ap, sym, subst, ◌∙◌}
+use Rattle.feed_types.specs.declared.missing_range.MissingRange.{MissingRange}
 use Rattle.mold_packet.specs.declared.request.Request.{Request}
 use Rattle.line_arbiter.specs.Streams.{gap_of}
 use Rattle.line_arbiter.specs.Histories.{History}
-use Rattle.event_sinks.specs.declared.lack.MissingRange.{MissingRange}
+use Rattle.event_sinks.specs.declared.venue_gap.VenueGap.{VenueGap}
 use Rattle.line_arbiter.specs.LastSent.{last_sent}
 use Rattle.feed_text.specs.Following.{ReplayVenue, Follows}
-use Rattle.event_sinks.specs.VenueLacks.{lack_by}
+use Rattle.event_sinks.specs.VenueGaps.{venue_gap}
 use Rattle.feed_text.proofs.VenueSteps.{all_sent, gap_shown}
 use Rattle.feed_text.proofs.venue.VenueReplay.put_lack.Goals as goal
 use Rattle.feed_text.proofs.venue.VenueReplay.put_lack.Goals.{After-gap}
@@ -30,22 +31,17 @@ returns-in-Some-clause-lack c = λ width place h f.
     sym c.in-Some.is ∙ gap_is at width place h f in
     let number : c.venue.result ≡ place = c.venue.ensures
     ∙ ap (λ (v : ReplayVenue). v.arbiter.venue) c.self.view_is ∙ f.number in
-    let made : MissingRange = record {
-      venue = place;
-      number = c.in-Some.gap.number;
+    let missing : MissingRange = record {
+      first = c.in-Some.gap.number;
       count =
           c.in-Some.gap.count;
     } in
+    let made : VenueGap = record { venue = place; messages = missing } in
     let is : c.of.result ≡ made = c.of.ensures
-    ∙ ap (λ (v : ℕ). record {
-      venue = v;
-      number = c.in-Some.gap.number;
-      count =
-          c.in-Some.gap.count;
-    }) number in
+    ∙ ap (λ (v : ℕ). record { venue = v; messages = missing }) number in
     c.push_reserved.ensures.items
-    ∙ ap (λ (lack : MissingRange). c.args.lacks.now.items ++ lack ∷ []) is
-    ∙ ap (λ (o : Option Request). c.args.lacks.now.items ++ lack_by place o) gap
+    ∙ ap (λ (made : VenueGap). c.args.lacks.now.items ++ made ∷ []) is
+    ∙ ap (λ (o : Option Request). c.args.lacks.now.items ++ venue_gap place o) gap
 
 pub returns-in_default-clause-lack : goal.returns-in_default-clause-lack
 returns-in_default-clause-lack c = λ width place h f.
@@ -53,4 +49,4 @@ returns-in_default-clause-lack c = λ width place h f.
     let gap : None ≡ gap_of h.present.name width (last_sent h) h.present.packets =
     sym c.in_default.is ∙ gap_is at width place h f in
     sym (append-nil c.args.lacks.now.items) ∙ ap (λ (o : Option Request). c.args.lacks.now.items
-    ++ lack_by place o) gap
+    ++ venue_gap place o) gap

@@ -1,7 +1,7 @@
--- What is told of the messages that venues lack at the end of a replay.
+-- What is told of the messages that are missing of venues at the end of a replay.
 use Rattle.std.specs.Prelude.{ℕ, Bool, true, false, ◌||◌, List, [], flat_map, Result, Ok}
-use Rattle.event_sinks.specs.LackTexts.{lack_texts}
-use Rattle.event_sinks.specs.declared.lack.MissingRange.{MissingRange}
+use Rattle.event_sinks.specs.VenueGapTexts.{venue_gap_texts}
+use Rattle.event_sinks.specs.declared.venue_gap.VenueGap.{VenueGap}
 use Rattle.run_settings.specs.declared.skip_rule.SkipRule.{SkipRule}
 use Rattle.run_settings.specs.declared.skip_rule.SkipRule.TheVariants as skips
 use Rattle.run_settings.specs.declared.run_input.RunInput.{RunInput}
@@ -35,14 +35,14 @@ is_part (BestTimes style) = true
 -- A replay of a packet capture tells it; one of a capture of the project's own format where
 -- standard error is a terminal, where not all lines are printed, and where gaps are given up. So
 -- that stays silent by default.
-abbrev pub tells_lacks : RunSettings → Terminals → Bool
-tells_lacks settings terminals =
+abbrev pub reports_gaps : RunSettings → Terminals → Bool
+reports_gaps settings terminals =
     is_packet_input settings.input
     || (is_part settings.output || (has_rule settings.skips || terminals.errors))
 
--- After a run that ended well a line for each venue that lacks anything, if that is told; after
--- another one it isn't known what they lack.
-abbrev pub told_lacks : {F : Type 0} → Result (Unit {0}) F → Bool → List MissingRange
+-- After a run that ended well a line for each venue that has a gap, if that is told; after
+-- another one it isn't known what is missing.
+abbrev pub reported_gaps : {F : Type 0} → Result (Unit {0}) F → Bool → List VenueGap
     → List (List ℕ)
-told_lacks (Ok done) true lacks = flat_map lack_texts lacks
-told_lacks outcome is_told lacks = []
+reported_gaps (Ok done) true gaps = flat_map venue_gap_texts gaps
+reported_gaps outcome is_told gaps = []

@@ -3,18 +3,18 @@ use Rattle.std.proofs.Common.{◌≡◌, ℕ, List, subst}
 use Rattle.std.specs.Prelude.{Bool, Result}
 use Rattle.text_out.specs.Devices.{Writing}
 use Rattle.text_out.specs.StandardError.{SaysEach}
-use Rattle.event_sinks.specs.declared.lack.MissingRange.{MissingRange}
+use Rattle.event_sinks.specs.declared.venue_gap.VenueGap.{VenueGap}
 use Rattle.nbbo_runs.specs.AbsentSymbols.{told_absent}
 use Rattle.run_notes.specs.AbsentSymbols.{symbols_with}
-use Rattle.nbbo_runs.specs.Lacks.{told_lacks}
+use Rattle.nbbo_runs.specs.ReportedGaps.{reported_gaps}
 
 pub tells_items : {S F : Type 0} (w : Writing S) (outcome : Result (Unit {0}) F)
-    (is_told due : Bool) (seen items : List MissingRange) (s t : S) → is_told ≡ due → seen ≡ items
-    → SaysEach w (told_lacks outcome is_told seen) s t
-    → SaysEach w (told_lacks outcome due items) s t
+    (is_told due : Bool) (seen items : List VenueGap) (s t : S) → is_told ≡ due → seen ≡ items
+    → SaysEach w (reported_gaps outcome is_told seen) s t
+    → SaysEach w (reported_gaps outcome due items) s t
 tells_items w outcome is_told due seen items s t when same says =
-    subst (λ (b : Bool). SaysEach w (told_lacks outcome b items) s t) when
-    (subst (λ (lacks : List MissingRange). SaysEach w (told_lacks outcome is_told lacks) s t) same
+    subst (λ (b : Bool). SaysEach w (reported_gaps outcome b items) s t) when
+    (subst (λ (gaps : List VenueGap). SaysEach w (reported_gaps outcome is_told gaps) s t) same
     says)
 
 pub tells_absent : {S F : Type 0} (w : Writing S) (outcome : Result (Unit {0}) F)

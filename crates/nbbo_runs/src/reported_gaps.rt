@@ -1,11 +1,11 @@
-//! What is told of the messages that venues lack at the end of a replay.
+//! What is told of the messages that are missing of venues at the end of a replay.
 ghost use Rattle.text_out.specs.Members.{writing_of};
 ghost use Rattle.std.specs.Prelude.{◌≡◌};
 ghost use Rattle.text_out.specs.StandardError.{SaysEach};
-ghost use Rattle.nbbo_runs.specs.Lacks.{has_rule, is_packet_input, is_part, tells_lacks, told_lacks};
+ghost use Rattle.nbbo_runs.specs.ReportedGaps.{has_rule, is_packet_input, is_part, reports_gaps, reported_gaps};
 
 use crate::terminals::Terminals;
-use event_sinks::{MissingRange, write_lacks};
+use event_sinks::{VenueGap, write_venue_gaps};
 use run_settings::{RunInput, RunOutput, RunSettings, SkipRule};
 use text_out::TextOut;
 
@@ -43,11 +43,11 @@ fn is_part(output: RunOutput) -> bool
     }
 }
 
-/// Whether a run tells what venues lack: of a packet capture always, of a capture of the project's
+/// Whether a run reports the gaps of venues: of a packet capture always, of a capture of the project's
 /// own format at a terminal, and where an option is given that asks for more or less than its
 /// lines.
-pub fn tells_lacks(settings: &RunSettings, terminals: Terminals) -> bool
-    ensures { result ≡ tells_lacks settings.now terminals }
+pub fn reports_gaps(settings: &RunSettings, terminals: Terminals) -> bool
+    ensures { result ≡ reports_gaps settings.now terminals }
 {
     is_packet_input(&settings.input)
         || is_part(settings.output)
@@ -55,18 +55,18 @@ pub fn tells_lacks(settings: &RunSettings, terminals: Terminals) -> bool
         || terminals.errors
 }
 
-/// Writes what venues lack after a run with this outcome, if that is told.
-pub fn tell_lacks<F, E: TextOut>(
+/// Writes the gaps of venues after a run with this outcome, if that is told.
+pub fn report_gaps<F, E: TextOut>(
     outcome: &Result<(), F>,
     is_told: bool,
-    lacks: &[MissingRange],
+    gaps: &[VenueGap],
     errors: &mut E,
 )
     ensures { SaysEach (writing_of E.TextOut)
-        (told_lacks outcome.now is_told lacks.now) errors.old errors.new }
+        (reported_gaps outcome.now is_told gaps.now) errors.old errors.new }
 {
     match outcome {
-        Ok(()) if is_told => write_lacks(lacks, errors),
+        Ok(()) if is_told => write_venue_gaps(gaps, errors),
         _ => {}
     }
 }
