@@ -9,7 +9,8 @@ use Rattle.udp_listening.specs.declared.itch_statuses.ItchStatuses.{ItchStatuses
 use Rattle.udp_listening.specs.declared.run_monitor.RunMonitor.{RunMonitor}
 use Rattle.itch_lines.specs.declared.venue_share.VenueShare.{VenueShare}
 use Rattle.text_out.specs.Devices.{Writing}
-use Rattle.udp_listening.specs.ItchShown.{at_venue}
+use Rattle.itch_lines.specs.Shown.{MayShow}
+use Rattle.udp_listening.specs.ItchShown.{AreSeen, at_venue}
 use Rattle.udp_listening.specs.ItchReports.{HasLooked, SaysGivenUpAt, SaysGivenUpBelow, SaysLook, reported_at, reported_then}
 
 -- what was reported of the first venues and of one more
@@ -82,3 +83,25 @@ said_more writing elapsed place venue before old new at look one =
             subst (λ (v : ℕ). SaysGivenUpAt writing elapsed v old new) at one,
           );
     }
+
+-- nothing is reported yet
+pub looked_first : (before new : ItchStatuses VenueShare)
+    → AreSeen (λ share. MayShow share.venue) before.sources.items new.seen
+    → new ≡ record before { seen = new.seen } → HasLooked 0 before new
+looked_first before new are kept = record {
+  sources = ap (λ (i : ItchStatuses VenueShare). i.sources) kept;
+  seen = are;
+  reported = λ venue below. absurd (omega (arith, below));
+  others = λ venue past. ap (λ (i : ItchStatuses VenueShare). at_venue i.reported venue) kept;
+}
+
+pub said_first : {C E : Type 0} (writing : Writing E) (elapsed : ℕ) (before : RunMonitor C E)
+    (new : ItchStatuses VenueShare)
+    → AreSeen (λ share. MayShow share.venue) before.itch.sources.items new.seen
+    → new ≡ record before.itch { seen = new.seen }
+    → SaysLook writing elapsed 0 before (record before { itch = new })
+said_first writing elapsed before new are kept = record {
+  seen = new.seen;
+  are = are;
+  says = ap (λ (i : ItchStatuses VenueShare). record before { itch = i }) kept;
+}
