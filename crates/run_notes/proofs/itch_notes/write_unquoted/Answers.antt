@@ -1,0 +1,21 @@
+use Rattle.std.proofs.Common.{[], ◌∷◌, ◌++◌, codes}
+use Rattle.text_out.specs.Devices.{Writing}
+use Rattle.event_sinks.specs.VenueGapTexts.{missing_texts}
+use Rattle.run_notes.specs.NamedGaps.{named_venue_texts}
+use Rattle.text_out.specs.laws.SaidTexts.{says_each}
+use Rattle.run_notes.proofs.itch_notes.write_unquoted.Goals as goal
+
+pub returns : goal.returns
+returns g c =
+    let w : Writing g.row.E.Denot = record {
+      adds = g.E.TextOut.adds;
+      failures =
+          g.E.TextOut.failures;
+    } in
+    let gap = c.args.gap.now in
+    let missing = missing_texts gap.messages in
+    let named = c.write_named_venue.new.errors in
+    says_each w (named_venue_texts c.args.names.now gap.venue) (missing ++ codes ", and is quoted no more\n" ∷ [])
+    c.args.errors.now named c.write_stderr.new.errors c.write_named_venue.ensures
+    (says_each w missing (codes ", and is quoted no more\n" ∷ []) named c.write_missing.new.errors
+    c.write_stderr.new.errors c.write_missing.ensures c.write_stderr.ensures)
