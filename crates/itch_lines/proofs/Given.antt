@@ -17,7 +17,7 @@ use Rattle.venue_normaliser.specs.States.{FitsPackets, KeepsItsBook, NormaliserS
 use Rattle.itch_lines.specs.Cells.{HasBeenGiven, ItchState}
 use Rattle.itch_lines.specs.Lines.{IsPossibleSkip}
 use Rattle.itch_lines.specs.Sections.{BeginsOrKeeps, BringsSkip, MakesOfDatagram, gap_asked, since_begun}
-use Rattle.itch_lines.specs.Shown.{ShowsSomeVenue, ShowsNormaliser, gap_at_end}
+use Rattle.itch_lines.specs.Shown.{MayShow, ShowsNormaliser, gap_at_end}
 use Rattle.itch_lines.specs.declared.itch_status.ItchStatus.{ItchStatus}
 use Rattle.itch_lines.proofs.Bringing.{none_put_out}
 
@@ -141,18 +141,19 @@ unfailing : (failed : Bool) → true ≡ not failed → failed ≡ false
 unfailing false e = refl
 unfailing true e = absurd cc
 
-pub shown_by : (state : ItchState) (status : Option ItchStatus)
-    → (state.failed ≡ false → HasBeenGiven state.normaliser)
+pub shown_by : (venue : ℕ) (state : ItchState) (status : Option ItchStatus)
+    → state.normaliser.lines.venue ≡ venue → (state.failed ≡ false → HasBeenGiven state.normaliser)
     → IfSome status (λ s. (packets : List Input) → FitsPackets state.normaliser packets
     → ShowsNormaliser state.normaliser packets s)
     → IfSome status (λ s. s.given_up ≡ state.given_up) → is_some status ≡ not state.failed
-    → IfSome status ShowsSomeVenue
-shown_by state None kept shows given_up failed = tt
-shown_by state (Some status) kept shows given_up failed =
+    → MayShow venue status
+shown_by venue state None at kept shows given_up failed = tt
+shown_by venue state (Some status) at kept shows given_up failed =
     let was = kept (unfailing state.failed failed) in
     record {
       state = state;
       was = was;
+      venue_is = at;
       shows = shows was.packets was.fits;
       given_up = given_up;
     }

@@ -35,5 +35,5 @@ abbrev pub given_up_then : (ordinal : ℕ) → Option Request → Option GivenUp
 given_up_then ordinal None before = before
 given_up_then ordinal (Some gap) before = Some (record {
   ordinal = ordinal;
-  run = record { number = gap.number; count = gap.count };
+  messages = record { first = gap.number; count = gap.count };
 })

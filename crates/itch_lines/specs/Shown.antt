@@ -1,5 +1,5 @@
 -- What a venue in ITCH shows, and whether a reply is awaited.
-use Rattle.std.specs.Prelude.{◌≡◌, ℕ, ◌==◌, ◌&&◌, Bool, List, Option, None, is_some, not, if◌then◌else◌}
+use Rattle.std.specs.Prelude.{◌≡◌, ℕ, ◌==◌, ◌&&◌, Bool, IfSome, List, Option, None, is_some, not, if◌then◌else◌}
 use Rattle.line_arbiter.specs.Fits.{cursors_of}
 use Rattle.line_arbiter.specs.Packets.{Input}
 use Rattle.line_arbiter.specs.Pacing.{IsPaced, Pace}
@@ -22,11 +22,16 @@ pub record ShowsNormaliser (n : NormaliserState) (packets : List Input) (status 
   pub gap : status.gap ≡ gap_asked n packets
 
 -- there is a state that the venue's lock may keep, and the status is that of it
-pub record ShowsSomeVenue (status : ItchStatus) : Type 0 where
+pub record ShowsItchVenue (venue : ℕ) (status : ItchStatus) : Type 0 where
   pub state : ItchState
   pub was : HasBeenGiven state.normaliser
+  pub venue_is : state.normaliser.lines.venue ≡ venue
   pub shows : ShowsNormaliser state.normaliser was.packets status
   pub given_up : status.given_up ≡ state.given_up
+
+-- the venue may show this: such a status, or nothing, as one whose normaliser has failed
+abbrev pub MayShow : (venue : ℕ) → Option ItchStatus → Type 0
+MayShow venue status = IfSome status (ShowsItchVenue venue)
 
 -- ---- beside the feed
 

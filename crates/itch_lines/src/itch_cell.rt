@@ -14,8 +14,8 @@ ghost use Rattle.itch_lines.specs.Shown.{AwaitsReply, ShowsNormaliser, gap_at_en
 
 use crate::itch_status::ItchStatus;
 use crate::itch_venue::ItchVenue;
-use crate::venue_end::{GivenUp, ItchVenueEnd, MessageRun};
-use feed_types::{LineId, SessionName, VenueId};
+use crate::venue_end::{GivenUp, ItchVenueEnd};
+use feed_types::{LineId, MissingRange, SessionName, VenueId};
 use itch_book::BookFault;
 use line_arbiter::Pacer;
 use mold_packet::Request;
@@ -257,11 +257,11 @@ impl ItchCell {
         } }
     {
         if let Some(gap) = gap {
-            let run = MessageRun {
-                number: gap.number,
+            let messages = MissingRange {
+                first: gap.number,
                 count: u64::from(gap.count),
             };
-            self.given_up = Some(GivenUp { ordinal, run });
+            self.given_up = Some(GivenUp { ordinal, messages });
         }
     }
 
@@ -340,7 +340,7 @@ impl ItchCell {
         ItchVenueEnd {
             venue: self.venue(),
             given_up: match self.given_up {
-                Some(given_up) => Some(given_up.run),
+                Some(given_up) => Some(given_up.messages),
                 None => None,
             },
             missing: self.gap_asked(),

@@ -25,6 +25,7 @@ mod itch_rules;
 mod itch_status;
 mod itch_venue;
 mod source_end;
+mod status_source;
 mod venue_end;
 mod venue_share;
 
@@ -33,5 +34,6 @@ pub use itch_line::ItchLine;
 pub use itch_rules::ItchRules;
 pub use itch_status::ItchStatus;
 pub use source_end::SourceEnd;
-pub use venue_end::{GivenUp, ItchVenueEnd, MessageRun};
+pub use status_source::StatusSource;
+pub use venue_end::{GivenUp, ItchVenueEnd};
 pub use venue_share::VenueShare;

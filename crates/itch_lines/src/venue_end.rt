@@ -1,22 +1,16 @@
 //! What a venue in ITCH has come to.
 
-use feed_types::VenueId;
+use feed_types::{MissingRange, VenueId};
 use itch_book::BookFault;
 use mold_packet::Request;
-
-/// Messages of a session in a row: the first one's number, and how many they are.
-#[derive(Clone, Copy, Debug, PartialEq, Eq)]
-pub struct MessageRun {
-    pub number: u64,
-    pub count: u64,
-}
 
 /// A gap that was given up first of a session.
 #[derive(Clone, Copy, Debug, PartialEq, Eq)]
 pub struct GivenUp {
     /// Which of the venue's sessions it is, counted from 1.
     pub ordinal: u64,
-    pub run: MessageRun,
+    /// The messages that are missing.
+    pub messages: MissingRange,
 }
 
 /// What a venue in ITCH has come to.
@@ -24,7 +18,7 @@ pub struct GivenUp {
 pub struct ItchVenueEnd {
     pub venue: VenueId,
     /// The first gap of a session that was given up last, which ended what is put out of it.
-    pub given_up: Option<MessageRun>,
+    pub given_up: Option<MissingRange>,
     /// The gap that stands, if one does: the run that is asked for.
     pub missing: Option<Request>,
     /// Why its normaliser has failed, if it has.

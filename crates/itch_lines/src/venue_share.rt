@@ -4,11 +4,12 @@ ghost use Rattle.venue_normaliser.specs.States.{FitsPackets};
 ghost use Rattle.item_packets.specs.Packed.{bytes_of_each};
 ghost use Rattle.itch_lines.specs.Lines.{IsPossibleSkip, IsPossibleTaking};
 ghost use Rattle.itch_lines.specs.Sections.{BringsEnd};
-ghost use Rattle.itch_lines.specs.Shown.{ShowsSomeVenue};
+ghost use Rattle.itch_lines.specs.Shown.{MayShow};
 
 use crate::itch_cell::{ItchCell, SectionDone, SectionFailed};
 use crate::itch_rules::ItchRules;
 use crate::itch_status::ItchStatus;
+use crate::status_source::StatusSource;
 use crate::venue_end::ItchVenueEnd;
 use feed_types::{LineId, SessionName, VenueId};
 use mold_packet::Request;
@@ -47,6 +48,8 @@ struct SharedVenue {
 /// they bring what was made.
 #[derive(Drop)]
 pub struct VenueShare {
+    /// The venue.
+    venue: VenueId,
     shared: Arc<SharedVenue, Global>,
 }
 
@@ -96,10 +99,14 @@ fn give_up_at(
     Ok(given)
 }
 
-/// Returns what a venue shows, by its cell; None where its normaliser has failed.
-fn status_at(cell: &ItchCell) -> Option<ItchStatus>
-    ensures { IfSome result ShowsSomeVenue }
+/// Returns what a venue shows, by its cell; None where its normaliser has failed, or the cell is
+/// another venue's, which no run meets.
+fn status_at(cell: &ItchCell, venue: VenueId) -> Option<ItchStatus>
+    ensures { MayShow venue result }
 {
+    if cell.venue() != venue {
+        return None;
+    }
     cell.show_lock_invariant();
     cell.status()
 }
@@ -113,7 +120,9 @@ impl VenueShare {
         names: Vec<SessionName>,
     ) -> Result<VenueShare, AllocError>
         requires { FitsPackets normaliser [] }
+        ensures { IfOk result (λ share. share.venue ≡ normaliser.lines.venue) }
     {
+        let venue = normaliser.venue();
         let cell = Mutex::new(ItchCell::new(alloc, normaliser, names)?);
         let shared = SharedVenue {
             cell,
@@ -121,13 +130,17 @@ impl VenueShare {
             awaited: Arc::new(alloc, AtomicBool::new(false))?,
         };
         Ok(VenueShare {
+            venue,
             shared: Arc::new(alloc, shared)?,
         })
     }
 
     /// Returns the same, for another line. AllocError where it can't be shared any further.
-    pub fn share(&self) -> Result<VenueShare, AllocError> {
+    pub fn share(&self) -> Result<VenueShare, AllocError>
+        ensures { IfOk result (λ share. share.venue ≡ self.now.venue) }
+    {
         Ok(VenueShare {
+            venue: self.venue,
             shared: Arc::try_clone(&self.shared)?,
         })
     }
@@ -238,20 +251,22 @@ impl VenueShare {
             .store(ticket.saturating_add(1), Ordering::SeqCst);
     }
 
-    /// Returns what the venue shows; None where its normaliser has failed.
-    pub fn status(&self) -> Option<ItchStatus>
-        ensures { IfSome result ShowsSomeVenue }
-    {
-        match self.lock() {
-            Some(guard) => status_at(&guard),
-            None => None,
-        }
-    }
-
     /// Returns what the venue has come to.
     pub fn end(&self) -> Option<ItchVenueEnd> {
         match self.lock() {
             Some(guard) => Some(guard.end()),
+            None => None,
+        }
+    }
+}
+
+impl StatusSource for VenueShare {
+    ghost shows = { λ share status. MayShow share.venue status };
+
+    /// Returns what the venue shows; None where its normaliser has failed.
+    fn status(&self) -> Option<ItchStatus> {
+        match self.lock() {
+            Some(guard) => status_at(&guard, self.venue),
             None => None,
         }
     }

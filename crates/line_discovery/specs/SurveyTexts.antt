@@ -1,10 +1,11 @@
 -- What was counted of a capture, as a table and as JSON (RFC 8259).
-use Rattle.std.specs.Prelude.{ℕ, ◌+◌, ◌-◌, ◌==◌, ◌||◌, List, [], ◌∷◌, ◌++◌, codes, decimal, flat_map, length, take, Option, None, Some, option_map, if◌then◌else◌}
+use Rattle.std.specs.Prelude.{ℕ, ◌+◌, ◌-◌, ◌==◌, ◌||◌, List, [], ◌∷◌, ◌++◌, codes, decimal, flat_map, length, Option, None, Some, option_map, if◌then◌else◌}
 use Rattle.run_settings.specs.declared.formats.StatsFormat.{StatsFormat}
 use Rattle.run_settings.specs.declared.formats.StatsFormat.TheVariants.{Table, Json}
 use Rattle.run_settings.specs.declared.formats.TimeStyle.{TimeStyle}
 use Rattle.run_settings.specs.declared.formats.TimeStyle.TheVariants.{Seconds, Utc}
 use Rattle.best_rows.specs.UtcTexts.{utc_text}
+use Rattle.text_out.specs.TextParts.{filled_text, labelled_texts, spaces}
 use Rattle.line_captures.specs.declared.frame_counts.FrameCounts.{FrameCounts}
 use Rattle.line_discovery.specs.declared.counts.SurveyCounts.{SurveyCounts}
 use Rattle.line_discovery.specs.declared.line_key.LineKey.{LineKey}
@@ -18,25 +19,9 @@ use Rattle.line_discovery.specs.Tables.{packets_at, rows_of, unlisted_of, up_to_
 
 -- ---- parts
 
--- `n` spaces, of 32 at most
-abbrev pub spaces : ℕ → List ℕ
-spaces n = take n (codes "                                ")
-
 abbrev pub place_cell : ℕ → LineKey → List ℕ
 place_cell columns key =
     let place = place_text key.address key.port in place ++ spaces (columns - length place)
-
--- a label, and a text at the end of this many columns
-abbrev pub filled_text : ℕ → List ℕ → List ℕ → List ℕ
-filled_text columns label value = label ++ (spaces (columns - length value) ++ value)
-
--- a label, and a number, or `nothing` where it isn't known
-abbrev pub cell_text : ℕ → List ℕ → List ℕ → Option ℕ → List ℕ
-cell_text columns nothing label None = filled_text columns label nothing
-cell_text columns nothing label (Some number) = filled_text columns label (decimal number)
-
-abbrev pub cells_text : ℕ → List ℕ → List (List ℕ × Option ℕ) → List ℕ
-cells_text columns nothing cells = flat_map (λ c. cell_text columns nothing c.0 c.1) cells
 
 abbrev pub low_of : Option Span → Option ℕ
 low_of span = option_map (λ s. s.low) span
@@ -100,7 +85,7 @@ table_row style others r =
     place_cell 24 r.key
     ++ (codes " "
     ++ (session_name r.key.session
-    ++ (cells_text 13 (codes "-") (
+    ++ (labelled_texts 13 (codes "-") (
     (codes " ", Some r.packets)
     ∷ (codes " ", Some r.messages)
     ∷ (codes " ", low_of r.numbers)
@@ -113,7 +98,7 @@ table_row style others r =
 
 abbrev pub table_rest : Unlisted → List ℕ
 table_rest r =
-    cells_text 13 (codes "-") (
+    labelled_texts 13 (codes "-") (
     (codes "\ndatagrams that are no packets      ", Some r.others)
     ∷ (codes "\n  addresses and ports they went to ", Some r.addresses)
     ∷ (codes "\nframes without a UDP datagram      ", Some r.blanks)
@@ -152,7 +137,7 @@ json_dates Utc r =
 -- what was counted of it
 abbrev pub json_members : TimeStyle → List LineRow → List LineRow → LineRow → List ℕ
 json_members style others rows r =
-    cells_text 0 (codes "null") (
+    labelled_texts 0 (codes "null") (
     (codes "\",\"packets\":", Some r.packets)
     ∷ (codes ",\"messages\":", Some r.messages)
     ∷ (codes ",\"first\":", low_of r.numbers)
@@ -169,7 +154,7 @@ json_line style others rows r = json_head r.key ++ json_members style others row
 
 abbrev pub json_rest : Unlisted → List ℕ
 json_rest r =
-    cells_text 0 (codes "null") (
+    labelled_texts 0 (codes "null") (
     (codes "{\"other_datagrams\":", Some r.others)
     ∷ (codes ",\"other_addresses\":", Some r.addresses)
     ∷ (codes ",\"frames_without_datagram\":", Some r.blanks)

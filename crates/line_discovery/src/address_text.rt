@@ -1,11 +1,13 @@
 //! Addresses as texts, and their order.
-ghost use Rattle.std.specs.Prelude.{◌≡◌, IfOk, string_bytes};
+ghost use Rattle.std.specs.Prelude.{◌≡◌, ◌++◌, IfOk, OnOk, string_bytes};
 ghost use Rattle.line_discovery.specs.Places.{is_lower_place, is_lower_address, place_text};
+ghost use Rattle.line_discovery.specs.SurveyTexts.{place_cell};
 
 use crate::line_key::LineKey;
 use packet_capture::Address;
 use std::alloc::{AllocError, Global};
 use std::net::{Ipv4Addr, Ipv6Addr, SocketAddrV4, SocketAddrV6};
+use text_out::spaces;
 
 /// Returns an address and port as `--lines` takes them. Fails where memory is refused.
 pub(crate) fn place_text(alloc: Global, address: Address, port: u16) -> Result<String, AllocError>
@@ -19,6 +21,21 @@ pub(crate) fn place_text(alloc: Global, address: Address, port: u16) -> Result<S
             SocketAddrV6::new(Ipv6Addr::from_octets(octets), port, 0, 0).to_string(alloc)
         }
     }
+}
+
+/// Appends the address and port of a key, and spaces up to this many columns.
+pub(crate) fn put_place(
+    alloc: Global,
+    text: &mut Vec<u8>,
+    columns: usize,
+    key: &LineKey,
+) -> Result<(), AllocError>
+    ensures { OnOk result (text.new.items ≡ text.old.items ++ place_cell columns key.now) }
+{
+    let place = place_text(alloc, key.address, key.port)?;
+    let bytes = place.as_bytes();
+    text.extend_from_slice(bytes)?;
+    text.extend_from_slice(spaces(columns.saturating_sub(bytes.len())))
 }
 
 /// Returns whether an address comes before another by its bytes. All of IPv4 come before those of

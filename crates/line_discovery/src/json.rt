@@ -3,11 +3,11 @@ ghost use Rattle.std.specs.Prelude.{◌≡◌, ◌++◌, IfOk, OnOk, flat_map};
 ghost use Rattle.line_discovery.specs.SurveyTexts.{escaped_code, json_dates, json_head, json_members, json_of, json_rest, json_line, session_name, text_of_survey};
 ghost use Rattle.line_discovery.specs.Tables.{rows_of};
 
+use crate::address_text::put_place;
 use crate::counts::SurveyCounts;
 use crate::line_key::LineKey;
 use crate::line_row::LineRow;
 use crate::look::put_look_member;
-use crate::pieces::{CellStyle, put_cells, put_place};
 use crate::table::EndpointTable;
 use crate::text::{high_of, low_of, other_key, session_name};
 use crate::times::put_date_member;
@@ -15,9 +15,10 @@ use crate::unlisted::{Unlisted, rest_of};
 use feed_types::SessionName;
 use run_settings::{StatsFormat, TimeStyle};
 use std::alloc::{AllocError, Global};
+use text_out::{NumberStyle, put_labelled};
 
 /// How numbers are put.
-const NUMBERS: CellStyle = CellStyle {
+const NUMBERS: NumberStyle = NumberStyle {
     columns: 0,
     nothing: "null",
 };
@@ -98,7 +99,7 @@ fn put_members(
         (",\"first_time_ns\":", low_of(row.times)),
         (",\"last_time_ns\":", high_of(row.times)),
     ];
-    put_cells(text, NUMBERS, &members)?;
+    put_labelled(text, NUMBERS, &members)?;
     put_dates(alloc, text, style, row)?;
     put_look_member(text, rows, row)?;
     text.extend_from_slice(b"}\n")
@@ -148,7 +149,7 @@ fn put_rest(text: &mut Vec<u8>, rest: &Unlisted) -> Result<(), AllocError>
         (",\"unlisted_packets\":", Some(rest.unlisted)),
         (",\"unlisted_others\":", Some(rest.unlisted_others)),
     ];
-    put_cells(text, NUMBERS, &members)?;
+    put_labelled(text, NUMBERS, &members)?;
     text.extend_from_slice(b"}\n")
 }
 

@@ -27,7 +27,6 @@ mod json;
 mod line_key;
 mod line_row;
 mod look;
-mod pieces;
 mod session_word;
 mod span;
 mod standing;

@@ -8,6 +8,8 @@ use crate::line_row::LineRow;
 use crate::standing::is_of_session;
 use crate::text::session_name;
 use std::alloc::AllocError;
+use text_out::TextPart::{Bytes, Text};
+use text_out::put_parts;
 
 /// Returns whether a row is of the session and had a message of the standard's forms.
 fn shows_itch(row: &LineRow, one: &LineRow) -> bool
@@ -61,9 +63,9 @@ fn is_first_of(rows: &[LineRow], row: &LineRow) -> bool
 fn put_look(text: &mut Vec<u8>, row: &LineRow) -> Result<(), AllocError>
     ensures { OnOk result (text.new.items ≡ text.old.items ++ look_text row.now) }
 {
-    text.extend_from_slice(b"looks like ITCH: ")?;
-    text.extend_from_slice(session_name(&row.key.session))?;
-    text.extend_from_slice(b"  nbbo normalise turns its messages into quotations\n")
+    let name = Bytes(session_name(&row.key.session));
+    let hint = Text("  nbbo normalise turns its messages into quotations\n");
+    put_parts(text, &[Text("looks like ITCH: "), name, hint])
 }
 
 /// Appends it at the first row of a session that does.

@@ -8,6 +8,8 @@ use crate::session_word::can_be_listed;
 use crate::text::{other_key, session_name};
 use feed_types::SessionName;
 use std::alloc::{AllocError, Global};
+use text_out::TextPart::{Bytes, Text};
+use text_out::put_parts;
 
 /// Whether the session of a row is a venue of the words, or why they leave it out.
 #[derive(Clone, Copy, Debug, PartialEq, Eq)]
@@ -116,19 +118,17 @@ pub(crate) fn standing_of(
 }
 
 /// Appends that the words leave out a session, and why.
-pub(crate) fn put_left_row(
+pub(crate) fn put_left_row<'a>(
     text: &mut Vec<u8>,
-    session: &Option<SessionName>,
-    reason: &str,
+    session: &'a Option<SessionName>,
+    reason: &'a str,
 ) -> Result<(), AllocError>
     ensures { OnOk result (text.new.items
         ≡ text.old.items ++ left_row session.now reason.now) }
 {
-    text.extend_from_slice(b"left out of the words: ")?;
-    text.extend_from_slice(session_name(session))?;
-    text.extend_from_slice(b"  ")?;
-    text.extend_from_slice(reason.as_bytes())?;
-    text.extend_from_slice(b"\n")
+    let name = Bytes(session_name(session));
+    let label = Text("left out of the words: ");
+    put_parts(text, &[label, name, Text("  "), Text(reason), Text("\n")])
 }
 
 /// Appends that the words leave out the session of a row, if they do, and why.

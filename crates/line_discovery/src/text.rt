@@ -3,12 +3,12 @@ ghost use Rattle.std.specs.Prelude.{◌≡◌, ◌++◌, IfOk, OnOk, flat_map};
 ghost use Rattle.line_discovery.specs.SurveyTexts.{high_of, low_of, other_key, session_name, table_head, table_of, table_rest, table_row, text_of_survey};
 ghost use Rattle.line_discovery.specs.Tables.{rows_of};
 
+use crate::address_text::put_place;
 use crate::counts::SurveyCounts;
 use crate::json::json_text;
 use crate::line_key::LineKey;
 use crate::line_row::LineRow;
 use crate::look::put_looks;
-use crate::pieces::{CellStyle, put_cells, put_place};
 use crate::span::Span;
 use crate::table::EndpointTable;
 use crate::times::put_time_cell;
@@ -17,6 +17,7 @@ use crate::words::put_words;
 use feed_types::SessionName;
 use run_settings::{StatsFormat, TimeStyle};
 use std::alloc::{AllocError, Global};
+use text_out::{NumberStyle, put_labelled};
 
 /// The heads of the first columns ..
 const HEAD: &[u8] =
@@ -31,7 +32,7 @@ const NUMBERS_HEAD: &[u8] = b"           first time            last time\n";
 const DATES_HEAD: &[u8] = b"                     first time                      last time\n";
 
 /// How counts are put.
-const COUNTS: CellStyle = CellStyle {
+const COUNTS: NumberStyle = NumberStyle {
     columns: 13,
     nothing: "-",
 };
@@ -99,7 +100,7 @@ fn put_row(
     put_place(alloc, text, 24, &row.key)?;
     text.extend_from_slice(b" ")?;
     text.extend_from_slice(session_name(&row.key.session))?;
-    put_cells(text, COUNTS, &counts)?;
+    put_labelled(text, COUNTS, &counts)?;
     put_time_cell(alloc, text, style, low_of(row.times))?;
     put_time_cell(alloc, text, style, high_of(row.times))?;
     text.extend_from_slice(b"\n")
@@ -139,7 +140,7 @@ fn put_rest(text: &mut Vec<u8>, rest: &Unlisted) -> Result<(), AllocError>
             Some(rest.unlisted_others),
         ),
     ];
-    put_cells(text, COUNTS, &cells)?;
+    put_labelled(text, COUNTS, &cells)?;
     text.extend_from_slice(b"\n")
 }
 

@@ -1,12 +1,11 @@
 //! Times, put into a text.
-ghost use Rattle.std.specs.Prelude.{◌≡◌, ◌≤◌, ◌++◌, IfOk, OnOk};
+ghost use Rattle.std.specs.Prelude.{◌≡◌, ◌++◌, IfOk, OnOk};
 ghost use Rattle.line_discovery.specs.SurveyTexts.{date_member, time_cell, time_columns, time_value};
 
-use crate::pieces::put_text;
 use best_rows::put_time;
 use run_settings::TimeStyle;
 use std::alloc::{AllocError, Global};
-use text_out::{LineBuffer, put_number};
+use text_out::{LineBuffer, put_filled, put_number};
 
 /// Returns a time in nanoseconds from 1970 on as a number of these, or as a date.
 fn time_value(alloc: Global, style: TimeStyle, time: u64) -> Result<LineBuffer, AllocError>
@@ -23,8 +22,7 @@ fn time_value(alloc: Global, style: TimeStyle, time: u64) -> Result<LineBuffer, 
 
 /// Returns how many columns a time has.
 fn time_columns(style: TimeStyle) -> usize
-    ensures value { result ≡ time_columns style }
-    ensures few { result ≤ 32 }
+    ensures { result ≡ time_columns style }
 {
     match style {
         TimeStyle::Seconds => 20,
@@ -42,10 +40,10 @@ pub(crate) fn put_time_cell(
     ensures { OnOk result (text.new.items ≡ text.old.items ++ time_cell style time) }
 {
     match time {
-        None => put_text(text, time_columns(style), " ", b"-"),
+        None => put_filled(text, time_columns(style), " ", b"-"),
         Some(time) => {
             let value = time_value(alloc, style, time)?;
-            put_text(text, time_columns(style), " ", value.as_slice())
+            put_filled(text, time_columns(style), " ", value.as_slice())
         }
     }
 }

@@ -20,39 +20,9 @@ pub struct Quoter {
     pub may_rank: bool,
 }
 
-/// Ranks what the venue shows by now, or takes it out where it isn't eligible. Returns whether the
-/// best side differs then.
-#[inline(always)]
-fn update_ranks(
-    sides: &VenueSides,
-    ranks: &mut Ranks,
-    places: &mut RankPlaces,
-    side: Side,
-    quoter: &Quoter,
-    cause: Cause,
-) -> bool
-    requires kept { HasPlaces places.old ranks.old.items }
-    requires ready { CanRank side quoter.now.venue cause
-        (book_side_of side sides.now ranks.old.items) }
-    ensures kept { HasPlaces places.new ranks.new.items }
-    ensures side { book_side_of side sides.now ranks.new.items
-        ≡ side_rechecked side quoter.now.venue quoter.now.may_rank
-        (book_side_of side sides.now ranks.old.items) }
-    ensures moved { result
-        ≡ not (is_same_best (best_of_ranks ranks.old.items) (best_of_ranks ranks.new.items)) }
-{
-    let shown = sides.get(side, quoter.venue);
-    let order = Order {
-        side,
-        cause,
-        venue_sides: sides,
-    };
-    let best = rank_of(quoter.may_rank, quoter.venue, shown.quote());
-    places.update(ranks, &order, quoter.venue, best)
-}
-
-/// Notes what the venue shows on this side from now on. Where that differs from what it showed, its
-/// age is newer than all others'. Returns whether the best side differs then.
+/// Notes what the venue shows on this side from now on, and ranks it, or takes it out where it isn't
+/// eligible. Where it differs from what the venue showed, its age is newer than all others'. Returns
+/// whether the best side differs then.
 #[inline(always)]
 pub fn set_quote(
     sides: &mut VenueSides,
@@ -78,7 +48,13 @@ pub fn set_quote(
         return false;
     }
     sides.set(side, quoter.venue, venue_side);
-    update_ranks(sides, ranks, places, side, quoter, Cause::Quoted)
+    let order = Order {
+        side,
+        cause: Cause::Quoted,
+        venue_sides: sides,
+    };
+    let best = rank_of(quoter.may_rank, quoter.venue, venue_side.quote());
+    places.update(ranks, &order, quoter.venue, best)
 }
 
 /// Notes that the venue shows nothing on this side since this age. Returns whether the best side
@@ -129,5 +105,12 @@ pub fn recheck_eligibility(
     ensures moved { result
         ≡ not (is_same_best (best_of_ranks ranks.old.items) (best_of_ranks ranks.new.items)) }
 {
-    update_ranks(sides, ranks, places, side, quoter, Cause::Rechecked)
+    let shown = sides.get(side, quoter.venue);
+    let order = Order {
+        side,
+        cause: Cause::Rechecked,
+        venue_sides: sides,
+    };
+    let best = rank_of(quoter.may_rank, quoter.venue, shown.quote());
+    places.update(ranks, &order, quoter.venue, best)
 }

@@ -28,6 +28,16 @@ pub struct Order<'a> {
     pub venue_sides: &'a VenueSides,
 }
 
+impl Order<'_> {
+    /// Returns the age of the side.
+    #[inline(always)]
+    fn age_of(&self, best: &Best) -> u64
+        ensures { result ≡ ages_in self.now best.now.venue }
+    {
+        self.venue_sides.get(self.side, best.venue).age()
+    }
+}
+
 /// The eligible sides of one side of a symbol, best first; at most one of each venue.
 pub type Ranks = ArrayVec<Best, MAX_VENUES>;
 
@@ -54,114 +64,32 @@ fn order_key(price: u32, size: u64) -> u128
     u128::from(price) * SIZES + u128::from(size)
 }
 
-/// Returns whether `x` is ahead of `y` by its price or its size. Which of the two is hard to
-/// predict: so price and size are compared as one number, by one branch. Of offers the lower price
-/// is ahead, but the larger size: so each price goes with the size of the other side.
-#[inline(always)]
-fn is_better(side: Side, x: &Best, y: &Best) -> bool
-    ensures { result ≡ is_better_side side x.now y.now }
-{
-    match side {
-        Side::Bid => order_key(y.price, y.size) < order_key(x.price, x.size),
-        Side::Offer => order_key(x.price, y.size) < order_key(y.price, x.size),
-    }
-}
-
-/// Returns whether `x` ranks before `y`: by its price, its size or its age. Ages are read where the
-/// rest is equal alone.
-fn beats(side: Side, venue_sides: &VenueSides, x: &Best, y: &Best) -> bool
-    ensures { result ≡ beats_side side (age_at (sides_in side venue_sides.now)) x.now y.now }
-{
-    let is_equal = x.price == y.price && x.size == y.size;
-    if !is_equal {
-        return is_better(side, x, y);
-    }
-    let x_age = venue_sides.get(side, x.venue).age();
-    let y_age = venue_sides.get(side, y.venue).age();
-    x_age < y_age
-}
-
-/// Returns whether `x`, the side that is ranked anew, ranks before `y`. The newest of all does so
-/// by its price or its size alone, and no age is read.
+/// Returns whether `x`, the side that is ranked anew, ranks before `y`: by its price, its size or
+/// its age. Which of the two is better is hard to predict: so price and size are compared as one
+/// number, by one branch. Of offers the lower price is ahead, but the larger size: so each price
+/// goes with the size of the other side.
+///
+/// The newest of all is never ahead by its age: then no age is read, and else only where all else
+/// is equal.
 #[inline(always)]
 fn is_ahead(order: &Order<'_>, x: &Best, y: &Best) -> bool
     ensures { result ≡ is_ahead_side order.now x.now y.now }
 {
+    let (better, worse) = match order.side {
+        Side::Bid => (order_key(x.price, x.size), order_key(y.price, y.size)),
+        Side::Offer => (order_key(y.price, x.size), order_key(x.price, y.size)),
+    };
     match order.cause {
-        Cause::Quoted => is_better(order.side, x, y),
-        Cause::Rechecked => beats(order.side, order.venue_sides, x, y),
-    }
-}
-
-/// Moves each side before `from` that `x` is ahead of one place back, over the side at `from`.
-/// Returns the place that is free for `x` then.
-#[inline(always)]
-fn rise(
-    order: &Order<'_>,
-    ranks: &mut [Best],
-    places: &mut [u8; MAX_VENUES],
-    from: usize,
-    x: &Best,
-) -> usize
-    requires { CanMove places.old ranks.old from x.now }
-    ensures noted { AreNoted (slice_set places.new x.now.venue result)
-        (slice_set ranks.new result x.now) }
-    ensures moved { slice_set ranks.new result x.now ≡ insert (remove ranks.old from) result x.now }
-    ensures up { result ≤ from }
-    ensures passed { result < from → is_ahead_side order.now x.now
-        (slice_index_or (remove ranks.old from) result x.now) ≡ true }
-    ensures stopped { (k : ℕ) → result ≡ k + 1 → is_ahead_side order.now x.now
-        (slice_index_or (remove ranks.old from) k x.now) ≡ false }
-{
-    let mut at = from;
-    while at > 0 {
-        let neighbour = &ranks[at - 1];
-        if !is_ahead(order, x, neighbour) {
-            return at;
+        Cause::Quoted => worse < better,
+        Cause::Rechecked => {
+            worse < better || worse == better && order.age_of(x) < order.age_of(y)
         }
-        places[neighbour.venue.index()] = at as u8;
-        ranks[at] = ranks[at - 1];
-        at -= 1;
     }
-    at
 }
 
-/// Moves each side after `from` that `x` isn't ahead of one place forward, over the side at `from`.
-/// Returns the place that is free for `x` then. `count` is the number of ranks.
-#[inline(always)]
-fn fall(
-    order: &Order<'_>,
-    count: usize,
-    ranks: &mut [Best],
-    places: &mut [u8; MAX_VENUES],
-    from: usize,
-    x: &Best,
-) -> usize
-    requires counted { count ≡ length ranks.old }
-    requires ready { CanMove (slice_set places.old x.now.venue from) ranks.old from x.now }
-    requires stopped { (k : ℕ) → from ≡ k + 1 → is_ahead_side order.now x.now
-        (slice_index_or (remove ranks.old from) k x.now) ≡ false }
-    ensures moved { slice_set ranks.new result x.now ≡ insert (remove ranks.old from) result x.now }
-    ensures place { IsPlace order.now x.now (remove ranks.old from) result }
-    ensures below { result < length ranks.old }
-    ensures noted { AreNoted (slice_set places.new x.now.venue result)
-        (slice_set ranks.new result x.now) }
-{
-    let mut at = from;
-    while at + 1 < count {
-        let neighbour = &ranks[at + 1];
-        if is_ahead(order, x, neighbour) {
-            return at;
-        }
-        places[neighbour.venue.index()] = at as u8;
-        ranks[at] = ranks[at + 1];
-        at += 1;
-    }
-    at
-}
-
-/// Puts `x` in the place of the side at `from`, and moves it past its neighbours to its rank.
-/// Returns its place. `count` is the number of ranks.
+/// Puts `x` in the place of the side at `from`, and moves it past its neighbours to its rank: first
+/// before those that it is ahead of, or else behind those that it isn't ahead of. Each of them
+/// moves by one place. Returns its place. `count` is the number of ranks.
 #[inline(always)]
 fn move_to_rank(
     order: &Order<'_>,
@@ -177,16 +105,22 @@ fn move_to_rank(
     ensures place { IsPlace order.now x.now (remove ranks.old from) result }
     ensures noted { AreNoted places.new ranks.new }
 {
-    let up = rise(order, ranks, places, from, x);
-    if up < from {
-        places[x.venue.index()] = up as u8;
-        ranks[up] = *x;
-        return up;
+    let mut at = from;
+    while at > 0 && is_ahead(order, x, &ranks[at - 1]) {
+        places[ranks[at - 1].venue.index()] = at as u8;
+        ranks[at] = ranks[at - 1];
+        at -= 1;
     }
-    let down = fall(order, count, ranks, places, from, x);
-    places[x.venue.index()] = down as u8;
-    ranks[down] = *x;
-    down
+    if at == from {
+        while at + 1 < count && !is_ahead(order, x, &ranks[at + 1]) {
+            places[ranks[at + 1].venue.index()] = at as u8;
+            ranks[at] = ranks[at + 1];
+            at += 1;
+        }
+    }
+    places[x.venue.index()] = at as u8;
+    ranks[at] = *x;
+    at
 }
 
 /// Returns the place of the venue's side.

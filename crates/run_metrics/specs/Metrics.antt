@@ -2,7 +2,9 @@
 -- help, one with its type, and a row for each value, with the value's labels. The names are this
 -- project's own. A venue's label is its name or its number, neither of which has a byte that the
 -- format gives a meaning.
-use Rattle.std.specs.Prelude.{ℕ, ◌+◌, ◌/◌, ◌%◌, List, [], ◌∷◌, ◌++◌, Option, Some, None, codes, decimal, drop, flat_map, slice_index}
+use Rattle.std.specs.Prelude.{ℕ, ◌/◌, List, [], ◌∷◌, ◌++◌, Option, Some, None, codes, decimal, flat_map, slice_index}
+use Rattle.std.specs.List.{concat}
+use Rattle.text_out.specs.TextParts.{nine_places}
 use Rattle.venue_lines.specs.declared.line_counts.LineCounts.{LineCounts}
 use Rattle.run_settings.specs.VenueNames.{venue_text}
 use Rattle.run_settings.specs.declared.venue_names.VenueNames.{VenueNames}
@@ -23,57 +25,51 @@ use Rattle.run_metrics.specs.declared.venue_metric.VenueMetric.TheVariants as ve
 
 -- ---- heads and rows
 
--- texts, one after the other
-abbrev pub text_of_parts : List (List ℕ) → List ℕ
-text_of_parts parts = flat_map (λ part. part) parts
-
 -- what stands before the rows of a metric
 unfoldable pub head_text : (name help kind : List ℕ) → List ℕ
 head_text name help kind =
-    text_of_parts
-    (codes "# HELP " ∷ name ∷ codes " " ∷ help ∷ codes "\n# TYPE " ∷ name ∷ codes " " ∷ kind
-    ∷ codes "\n" ∷ [])
+    concat (codes "# HELP " ∷ name ∷ codes " " ∷ help ∷ [])
+    ++ (concat (codes "\n# TYPE " ∷ name ∷ codes " " ∷ kind ∷ []) ++ codes "\n")
 
 -- the row of a figure of the run
 unfoldable pub run_row : (name : List ℕ) → ℕ → List ℕ
-run_row name value = text_of_parts (name ∷ codes " " ∷ decimal value ∷ codes "\n" ∷ [])
+run_row name value = concat (name ∷ codes " " ∷ decimal value ∷ codes "\n" ∷ [])
 
 -- how a row of a venue begins, up to the venue's label
 unfoldable pub row_start : (name venue : List ℕ) → List ℕ
-row_start name venue = text_of_parts (name ∷ codes "{venue=\"" ∷ venue ∷ [])
+row_start name venue = concat (name ∷ codes "{venue=\"" ∷ venue ∷ [])
 
--- of a venue, by its label
+-- of a line, up to the line's letter
+unfoldable pub line_start : (name venue line : List ℕ) → List ℕ
+line_start name venue line = row_start name venue ++ concat (codes "\",line=\"" ∷ line ∷ [])
+
+-- how a row ends, after its labels: with its value
+unfoldable pub value_end : ℕ → List ℕ
+value_end value = concat (codes "\"} " ∷ decimal value ∷ codes "\n" ∷ [])
+
+-- with nanoseconds as seconds, after what stands before these
+unfoldable pub time_end : List ℕ → ℕ → List ℕ
+time_end before time =
+    concat (before ∷ decimal (time / 1000000000) ∷ codes "." ∷ nine_places time ∷ [])
+    ++ codes "\n"
+
+-- the row of a venue, by its label
 unfoldable pub venue_row : (name venue : List ℕ) → ℕ → List ℕ
-venue_row name venue value =
-    row_start name venue
-    ++ text_of_parts (codes "\"} " ∷ decimal value ∷ codes "\n" ∷ [])
+venue_row name venue value = row_start name venue ++ value_end value
 
 -- of a line, by its letter
 unfoldable pub line_row : (name venue line : List ℕ) → ℕ → List ℕ
-line_row name venue line value =
-    row_start name venue
-    ++ text_of_parts
-    (codes "\",line=\"" ∷ line ∷ codes "\"} " ∷ decimal value ∷ codes "\n" ∷ [])
+line_row name venue line value = line_start name venue line ++ value_end value
 
--- nanoseconds as seconds with nine places, which one digit more before them fills with zeros
-abbrev pub places_text : ℕ → List ℕ
-places_text time = drop 1 (decimal (1000000000 + time % 1000000000))
-
--- the row of a time of a line
+-- of a time of a line
 unfoldable pub line_time_row : (name venue line : List ℕ) → ℕ → List ℕ
-line_time_row name venue line time =
-    row_start name venue
-    ++ (text_of_parts
-    (codes "\",line=\"" ∷ line ∷ codes "\"} " ∷ decimal (time / 1000000000) ∷ codes "." ∷ [])
-    ++ (places_text time ++ codes "\n"))
+line_time_row name venue line time = line_start name venue line ++ time_end (codes "\"} ") time
 
 -- of a line's refusals of one number
 unfoldable pub refusal_row : (venue line number : List ℕ) → ℕ → List ℕ
 refusal_row venue line number value =
-    row_start (codes "nbbo_refused_packets_total") venue
-    ++ text_of_parts
-    (codes "\",line=\"" ∷ line ∷ codes "\",refusal=\"" ∷ number ∷ codes "\"} " ∷ decimal value
-    ∷ codes "\n" ∷ [])
+    line_start (codes "nbbo_refused_packets_total") venue line
+    ++ (concat (codes "\",refusal=\"" ∷ number ∷ []) ++ value_end value)
 
 -- the rows of what there is, if it is there
 abbrev pub rows_if : {X : Type 0} → Option X → (X → List ℕ) → List ℕ
@@ -117,9 +113,7 @@ run_family figures metric =
 
 -- the row of a time of the run
 unfoldable pub run_time_row : (name : List ℕ) → ℕ → List ℕ
-run_time_row name time =
-    text_of_parts (name ∷ codes " " ∷ decimal (time / 1000000000) ∷ codes "." ∷ [])
-    ++ (places_text time ++ codes "\n")
+run_time_row name time = name ++ time_end (codes " ") time
 
 -- the sum of the rows' latencies, and how many rows there are
 abbrev pub latency_family : RunFigures → List ℕ
@@ -293,10 +287,8 @@ state_kind states.Ended = codes "gauge"
 -- whether a line has ended by a cause
 unfoldable pub end_row : (venue line cause : List ℕ) → ℕ → List ℕ
 end_row venue line cause value =
-    row_start (codes "nbbo_line_ended") venue
-    ++ text_of_parts
-    (codes "\",line=\"" ∷ line ∷ codes "\",by=\"" ∷ cause ∷ codes "\"} " ∷ decimal value
-    ∷ codes "\n" ∷ [])
+    line_start (codes "nbbo_line_ended") venue line
+    ++ (concat (codes "\",by=\"" ∷ cause ∷ []) ++ value_end value)
 
 -- 1 at what has ended a line, and 0 at the other causes
 abbrev pub end_counts : Option LineEndReason → List ℕ

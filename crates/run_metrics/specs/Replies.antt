@@ -1,11 +1,11 @@
 -- What a client of the metrics is answered. The grammar of a request's head is httparse's:
 -- ReadsRequest bytes head rest says that the bytes are this head and then the rest.
 use Rattle.std.specs.Prelude.{◌≡◌, ◌⊎◌, ℕ, ◌<◌, ◌≤◌, ◌||◌, Bool, true, false, nat_eq, List, [], ◌∷◌, ◌++◌, length, Option, Some, None, codes, decimal, if◌then◌else◌}
-use Rattle.std.specs.List.{starts_with}
+use Rattle.std.specs.List.{concat, starts_with}
 use Rattle.std.specs.Str.{bytes_eq}
 use Rattle.httparse.specs.Grammar.{HasNoRequest, ReadsRequest, RequestHead}
 use Rattle.httparse.specs.Spans.{RequestOverflows}
-use Rattle.run_metrics.specs.Metrics.{page_text, text_of_parts}
+use Rattle.run_metrics.specs.Metrics.{page_text}
 use Rattle.run_metrics.specs.declared.figures.RunFigures.{RunFigures}
 use Rattle.run_metrics.specs.declared.reply.Reply.{Reply}
 use Rattle.run_metrics.specs.declared.reply.Reply.TheVariants.{Page, PageHead, NotFound, NotFoundHead, NotAllowed, BadRequest}
@@ -74,10 +74,11 @@ content_text BadRequest figures = codes "this is no request\n"
 -- what stands before content of this length
 abbrev pub response_head : Reply → (length : ℕ) → List ℕ
 response_head reply count =
-    text_of_parts
+    concat
     (codes "HTTP/1.1 " ∷ status_text reply
-    ∷ codes "Content-Type: text/plain; " ∷ codes "version=0.0.4; charset=utf-8\r\n"
-    ∷ codes "Content-Length: " ∷ decimal count ∷ codes "\r\nConnection: close\r\n\r\n" ∷ [])
+    ∷ codes "Content-Type: text/plain; version=0.0.4; charset=utf-8\r\n" ∷ [])
+    ++ (concat (codes "Content-Length: " ∷ decimal count ∷ [])
+    ++ codes "\r\nConnection: close\r\n\r\n")
 
 -- whether the content is in the answer, or its length alone
 abbrev pub has_content : Reply → Bool

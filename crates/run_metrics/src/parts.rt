@@ -1,9 +1,10 @@
 //! The texts of which a page of metrics is made: the head of a metric, and rows.
-ghost use Rattle.std.specs.Prelude.{◌≡◌, ◌+◌, ◌++◌, ◌%◌, OnOk, codes, decimal, drop, flat_map};
-ghost use Rattle.run_metrics.specs.Metrics.{end_row, head_text, line_row, line_time_row, places_text, refusal_row, row_start, run_row, run_time_row, venue_row};
+ghost use Rattle.std.specs.Prelude.{◌≡◌, ◌++◌, OnOk};
+ghost use Rattle.run_metrics.specs.Metrics.{end_row, head_text, line_row, line_start, line_time_row, refusal_row, row_start, run_row, run_time_row, time_end, value_end, venue_row};
 
-use itoa::Buffer;
 use std::alloc::AllocError;
+use text_out::TextPart::{Bytes, Number, Places, Text};
+use text_out::put_parts;
 
 /// The type of a metric that only grows.
 pub(crate) const COUNTER: &str = "counter";
@@ -23,42 +24,22 @@ const REFUSED: &str = "nbbo_refused_packets_total";
 /// The name of what says which lines have ended.
 const ENDED: &str = "nbbo_line_ended";
 
-/// Appends texts, one after the other.
-pub(crate) fn put_texts(text: &mut Vec<u8>, parts: &[&str]) -> Result<(), AllocError>
-    ensures { OnOk result (text.new.items
-        ≡ text.old.items ++ flat_map (λ part. part.now) parts.now) }
-{
-    for part in parts {
-        text.extend_from_slice(part.as_bytes())?;
-    }
-    Ok(())
-}
-
 /// Appends what stands before the rows of a metric.
 #[tactic(auto, unfolding(crate::specs::Metrics::head_text))]
-pub(crate) fn put_head(
+pub(crate) fn put_head<'a>(
     text: &mut Vec<u8>,
-    name: &str,
-    help: &str,
-    kind: &str,
+    name: &'a str,
+    help: &'a str,
+    kind: &'a str,
 ) -> Result<(), AllocError>
     ensures { OnOk result (text.new.items
         ≡ text.old.items ++ head_text name.now help.now kind.now) }
 {
-    put_texts(
-        text,
-        &[
-            "# HELP ",
-            name,
-            " ",
-            help,
-            "\n# TYPE ",
-            name,
-            " ",
-            kind,
-            "\n",
-        ],
-    )
+    let name = Text(name);
+    let space = Text(" ");
+    put_parts(text, &[Text("# HELP "), name, space, Text(help)])?;
+    put_parts(text, &[Text("\n# TYPE "), name, space, Text(kind)])?;
+    text.extend_from_slice(b"\n")
 }
 
 /// Appends the row of a run's figure.
@@ -66,17 +47,48 @@ pub(crate) fn put_head(
 pub(crate) fn put_run_row(text: &mut Vec<u8>, name: &str, value: u64) -> Result<(), AllocError>
     ensures { OnOk result (text.new.items ≡ text.old.items ++ run_row name.now value) }
 {
-    let mut digits = Buffer::new();
-    put_texts(text, &[name, " ", digits.format(value), "\n"])
+    put_parts(text, &[Text(name), Text(" "), Number(value), Text("\n")])
 }
 
 /// Appends how a row of a venue begins: a metric's name, and the venue's label.
 #[tactic(auto, unfolding(crate::specs::Metrics::row_start))]
-fn put_row_start(text: &mut Vec<u8>, name: &str, venue: &[u8]) -> Result<(), AllocError>
+fn put_row_start<'a>(text: &mut Vec<u8>, name: &'a str, venue: &'a [u8]) -> Result<(), AllocError>
     ensures { OnOk result (text.new.items ≡ text.old.items ++ row_start name.now venue.now) }
 {
-    put_texts(text, &[name, "{venue=\""])?;
-    text.extend_from_slice(venue)
+    put_parts(text, &[Text(name), Text("{venue=\""), Bytes(venue)])
+}
+
+/// Appends how a row of a line begins. `line` is the line's letter.
+#[tactic(auto, unfolding(crate::specs::Metrics::line_start))]
+fn put_line_start(
+    text: &mut Vec<u8>,
+    name: &str,
+    venue: &[u8],
+    line: &str,
+) -> Result<(), AllocError>
+    ensures { OnOk result (text.new.items
+        ≡ text.old.items ++ line_start name.now venue.now line.now) }
+{
+    put_row_start(text, name, venue)?;
+    put_parts(text, &[Text("\",line=\""), Text(line)])
+}
+
+/// Appends a value after labels, and ends the row.
+#[tactic(auto, unfolding(crate::specs::Metrics::value_end))]
+fn put_value(text: &mut Vec<u8>, value: u64) -> Result<(), AllocError>
+    ensures { OnOk result (text.new.items ≡ text.old.items ++ value_end value) }
+{
+    put_parts(text, &[Text("\"} "), Number(value), Text("\n")])
+}
+
+/// Appends a time in nanoseconds as seconds, after what stands before it, and ends the row.
+#[tactic(auto, unfolding(crate::specs::Metrics::time_end))]
+fn put_time(text: &mut Vec<u8>, before: &str, time: u64) -> Result<(), AllocError>
+    ensures { OnOk result (text.new.items ≡ text.old.items ++ time_end before.now time) }
+{
+    let seconds = Number(time / SECOND);
+    put_parts(text, &[Text(before), seconds, Text("."), Places(time)])?;
+    text.extend_from_slice(b"\n")
 }
 
 /// Appends the row of a venue's figure.
@@ -89,9 +101,8 @@ pub(crate) fn put_venue_row(
 ) -> Result<(), AllocError>
     ensures { OnOk result (text.new.items ≡ text.old.items ++ venue_row name.now venue.now value) }
 {
-    let mut digits = Buffer::new();
     put_row_start(text, name, venue)?;
-    put_texts(text, &["\"} ", digits.format(value), "\n"])
+    put_value(text, value)
 }
 
 /// Appends the row of a line's count. `venue` is the venue's label,
@@ -107,23 +118,8 @@ pub(crate) fn put_line_row(
     ensures { OnOk result (text.new.items
         ≡ text.old.items ++ line_row name.now venue.now line.now value) }
 {
-    let mut digits = Buffer::new();
-    let digits = digits.format(value);
-    put_row_start(text, name, venue)?;
-    put_texts(text, &["\",line=\"", line, "\"} ", digits, "\n"])
-}
-
-/// Appends the nine places of a time in nanoseconds that is written as seconds, and ends the row.
-fn put_places(text: &mut Vec<u8>, time: u64) -> Result<(), AllocError>
-    ensures { OnOk result (text.new.items ≡ text.old.items ++ (places_text time ++ codes "\n")) }
-{
-    let mut digits = Buffer::new();
-    let filled = digits.format(SECOND + time % SECOND).as_bytes();
-    match filled.split_first() {
-        Some((_, places)) => text.extend_from_slice(places)?,
-        None => {}
-    }
-    text.extend_from_slice(b"\n")
+    put_line_start(text, name, venue, line)?;
+    put_value(text, value)
 }
 
 /// Appends the row of a time of a line, in nanoseconds, as seconds. `venue` is the venue's label,
@@ -139,11 +135,8 @@ pub(crate) fn put_line_time_row(
     ensures { OnOk result (text.new.items
         ≡ text.old.items ++ line_time_row name.now venue.now line.now time) }
 {
-    let mut digits = Buffer::new();
-    let seconds = digits.format(time / SECOND);
-    put_row_start(text, name, venue)?;
-    put_texts(text, &["\",line=\"", line, "\"} ", seconds, "."])?;
-    put_places(text, time)
+    put_line_start(text, name, venue, line)?;
+    put_time(text, "\"} ", time)
 }
 
 /// Appends the row of a time of a run, in nanoseconds, as seconds.
@@ -151,10 +144,8 @@ pub(crate) fn put_line_time_row(
 pub(crate) fn put_run_time_row(text: &mut Vec<u8>, name: &str, time: u64) -> Result<(), AllocError>
     ensures { OnOk result (text.new.items ≡ text.old.items ++ run_time_row name.now time) }
 {
-    let mut digits = Buffer::new();
-    let seconds = digits.format(time / SECOND);
-    put_texts(text, &[name, " ", seconds, "."])?;
-    put_places(text, time)
+    text.extend_from_slice(name.as_bytes())?;
+    put_time(text, " ", time)
 }
 
 /// Appends the row of how many datagrams of a line were refused by the refusal of a number.
@@ -169,21 +160,9 @@ pub(crate) fn put_refusal_row(
     ensures { OnOk result (text.new.items
         ≡ text.old.items ++ refusal_row venue.now line.now number.now value) }
 {
-    let mut digits = Buffer::new();
-    let digits = digits.format(value);
-    put_row_start(text, REFUSED, venue)?;
-    put_texts(
-        text,
-        &[
-            "\",line=\"",
-            line,
-            "\",refusal=\"",
-            number,
-            "\"} ",
-            digits,
-            "\n",
-        ],
-    )
+    put_line_start(text, REFUSED, venue, line)?;
+    put_parts(text, &[Text("\",refusal=\""), Text(number)])?;
+    put_value(text, value)
 }
 
 /// Appends the row of whether a line has ended by a cause.
@@ -198,11 +177,7 @@ pub(crate) fn put_end_row(
     ensures { OnOk result (text.new.items
         ≡ text.old.items ++ end_row venue.now line.now cause.now value) }
 {
-    let mut digits = Buffer::new();
-    let digits = digits.format(value);
-    put_row_start(text, ENDED, venue)?;
-    put_texts(
-        text,
-        &["\",line=\"", line, "\",by=\"", cause, "\"} ", digits, "\n"],
-    )
+    put_line_start(text, ENDED, venue, line)?;
+    put_parts(text, &[Text("\",by=\""), Text(cause)])?;
+    put_value(text, value)
 }

@@ -4,10 +4,10 @@ ghost use Rattle.run_metrics.specs.Replies.{content_text, has_content, response_
 
 use crate::figures::RunFigures;
 use crate::page::put_page;
-use crate::parts::put_texts;
 use crate::reply::Reply;
-use itoa::Buffer;
 use std::alloc::{AllocError, Global};
+use text_out::TextPart::{Number, Text};
+use text_out::put_parts;
 
 impl Reply {
     /// The status of the answer, with the fields that it alone has.
@@ -48,19 +48,11 @@ fn put_content(text: &mut Vec<u8>, reply: Reply, figures: &RunFigures<'_>) -> Re
 fn put_response_head(text: &mut Vec<u8>, reply: Reply, length: u64) -> Result<(), AllocError>
     ensures { OnOk result (text.new.items ≡ text.old.items ++ response_head reply length) }
 {
-    let mut digits = Buffer::new();
-    put_texts(
-        text,
-        &[
-            "HTTP/1.1 ",
-            reply.status(),
-            "Content-Type: text/plain; ",
-            "version=0.0.4; charset=utf-8\r\n",
-            "Content-Length: ",
-            digits.format(length),
-            "\r\nConnection: close\r\n\r\n",
-        ],
-    )
+    let content_type = "Content-Type: text/plain; version=0.0.4; charset=utf-8\r\n";
+    let status = Text(reply.status());
+    put_parts(text, &[Text("HTTP/1.1 "), status, Text(content_type)])?;
+    put_parts(text, &[Text("Content-Length: "), Number(length)])?;
+    text.extend_from_slice(b"\r\nConnection: close\r\n\r\n")
 }
 
 /// Returns the whole answer of a reply, of a run that has come to these figures.

@@ -1,4 +1,5 @@
 pub mod AbsentLaws
 pub mod AbsentSymbols
+pub mod ItchNotes
 pub mod NamedGaps
 pub mod SessionNames

@@ -4,7 +4,7 @@ use Rattle.text_out.specs.Devices.{Writing}
 use Rattle.run_settings.specs.declared.venue_names.VenueNames.{VenueNames}
 use Rattle.text_out.specs.StandardError.{SaysEach}
 use Rattle.run_watches.specs.GapNews.{gap_texts_if}
-use Rattle.run_watches.specs.Gaps.{GivesUpDue, SaysOfSession, SaysOfVenue, TellsStanding, after_joins, joined_run, stands, watch_begun}
+use Rattle.run_watches.specs.Gaps.{GivesUpDue, SaysOfSession, SaysOfVenue, TellsStanding, after_joins, joined_range, stands, watch_begun}
 use Rattle.run_watches.specs.declared.gap_news.GapChange.TheVariants.{GivenUp}
 use Rattle.run_watches.specs.declared.gap_rule.GapRule.{GapRule}
 use Rattle.run_watches.specs.declared.gap_watch.GapWatch.{GapWatch}
@@ -19,8 +19,8 @@ pub looked : {E : Type 0} (w : Writing E) (names : VenueNames) (answers : ℕ �
     → a ≡ watch_begun old status → b ≡ stands a now status → c ≡ after_joins rule b status
     → d ≡ record c { told = d.told; has_told_unanswered = d.has_told_unanswered }
     → SaysOfSession w names old now status first begun
-    → SaysEach w (gap_texts_if names (now / 1000) b.venue GivenUp (joined_run rule b status)) begun
-    joined
+    → SaysEach w (gap_texts_if names (now / 1000) b.venue GivenUp (joined_range rule b status))
+    begun joined
     → TellsStanding w names c now status joined told
     → GivesUpDue w names (answers d.venue) rule d now status told last
     → SaysOfVenue w names (answers old.venue) rule old now status first last
@@ -40,7 +40,7 @@ looked {E} w names answers rule old a b c d now status first begun joined told l
         joined = joined;
         tells_joins =
             subst (λ (x : GapWatch). SaysEach w
-            (gap_texts_if names (now / 1000) x.venue GivenUp (joined_run rule x status)) begun
+            (gap_texts_if names (now / 1000) x.venue GivenUp (joined_range rule x status)) begun
             joined)
             same joins;
         told = told;

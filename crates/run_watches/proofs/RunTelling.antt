@@ -1,27 +1,29 @@
 -- What is said of gaps and of a run, one thing after the other.
-use Rattle.std.proofs.Common.{List, [], ◌∷◌, ◌++◌, ◌≡◌, ◌∙◌, ◌<◌, ◌+◌, inl, inr, ℕ, zero, suc, Option, Some, None, All, ap, flat_map, length, map, refl, sym, subst, arith}
-use Rattle.std.specs.Prelude.{◌/◌, Bool, true, false, ◌&&◌, ◌||◌, MatchOption, is_some, nat_lt, ◌-◌, if◌then◌else◌}
+use Rattle.std.proofs.Common.{List, [], ◌∷◌, ◌++◌, ◌≡◌, ◌∙◌, ◌<◌, ◌+◌, inl, inr, ℕ, zero, suc, Option, Some, None, All, Contains, ap, flat_map, get_or, length, map, refl, sym, subst, arith}
+use Rattle.std.specs.Prelude.{◌/◌, Bool, true, false, ◌&&◌, ◌||◌, MatchOption, is_some, nat_lt, ◌-◌, slice_get, if◌then◌else◌}
 use Rattle.std.specs.List.{range_with_len}
 use Rattle.std.proofs.lemmas.Bool.{cases_Bool}
 use Rattle.std.proofs.lemmas.List.{get_or-map, length-map, map-append}
+use Rattle.std.proofs.lemmas.Option.{get_or_from_slice_get, slice_get_read, slice_get_within}
 use Rattle.text_out.specs.Devices.{Writing}
 use Rattle.run_settings.specs.declared.venue_names.VenueNames.{VenueNames}
 use Rattle.text_out.specs.StandardError.{SaysEach}
 use Rattle.line_arbiter.specs.declared.arbiter.ArbiterStatus.{ArbiterStatus}
 use Rattle.mold_packet.specs.declared.request.Request.{Request}
 use Rattle.run_watches.specs.GapNews.{gap_texts_if}
-use Rattle.run_watches.specs.Gaps.{LooksAt, SaysBegunIf, SaysOfGap, SaysOfVenue, TellsIfDone, TellsStanding, after_joins, begun_news, closed_run, due_of, gap_next, gives_up, has_stood, watch_begun, joined_run, lacking_of, news_of, stands, stood_of, told_still, unanswered_of}
-use Rattle.run_watches.specs.RunLines.{WatchedRun, watched_venue}
-use Rattle.run_watches.specs.RunNews.{IsNewsOf, IsNewsOfGap, MayHappen, RunNews, SaysCounts, SaysNews, SaysRunNews, of_counts, of_gap, of_session, run_news_texts}
+use Rattle.run_watches.specs.Gaps.{LooksAt, SaysBegunIf, SaysOfGap, SaysOfVenue, TellsIfDone, TellsStanding, after_joins, begun_news, closed_range, due_count, due_of, gives_up, has_stood, watch_begun, joined_range, lacking_of, news_of, next_after, stands, stood_of, told_still, unanswered_of}
+use Rattle.run_watches.specs.GivenUps.{giving_up_at, noted_texts}
+use Rattle.run_watches.specs.RunLines.{WatchedRun, watched_gaps, watched_venue}
+use Rattle.run_watches.specs.RunNews.{IsNewsOf, IsNewsOfGap, IsNewsOfGaps, MayHappen, RunNews, SaysCounts, SaysNews, SaysRunNews, of_counts, of_gap, of_session, run_news_texts}
 use Rattle.run_watches.specs.declared.gap_news.GapChange.{GapChange}
 use Rattle.run_watches.specs.declared.gap_news.GapChange.TheVariants.{Closed, GivenUp, Lacking, Unanswered}
-use Rattle.run_watches.specs.declared.gap_news.MissingRun.{MissingRun}
+use Rattle.feed_types.specs.declared.missing_range.MissingRange.{MissingRange}
 use Rattle.run_watches.specs.declared.gap_rule.GapRule.{GapRule}
-use Rattle.run_watches.specs.declared.gap_watch.DueGap.{DueGap}
 use Rattle.run_watches.specs.declared.gap_watch.GapWatch.{GapWatch}
+use Rattle.run_watches.specs.declared.gap_watches.GapWatches.{GapWatches}
 use Rattle.venue_lines.specs.declared.status.VenueStatus.{VenueStatus}
 use Rattle.run_watches.specs.RunNewsLaws.{more_news, no_news}
-use Rattle.run_watches.proofs.Telling.{one_news}
+use Rattle.run_watches.proofs.Telling.{made_within, one_news}
 
 -- ---- a gap
 
@@ -33,30 +35,30 @@ unsaid w names P s t same =
 
 -- what was said of messages, if there were any
 pub said_if_any : {E : Type 0} (w : Writing E) (names : VenueNames) (rule : GapRule)
-    (second venue : ℕ) (change : GapChange) (run : Option MissingRun) (s t : E)
-    → MayHappen rule change → SaysEach w (gap_texts_if names second venue change run) s t
+    (second venue : ℕ) (change : GapChange) (missing : Option MissingRange) (s t : E)
+    → MayHappen rule change → SaysEach w (gap_texts_if names second venue change missing) s t
     → SaysNews w names (IsNewsOfGap rule venue) s t
 said_if_any w names rule second venue change None s t may said =
     unsaid w names (IsNewsOfGap rule venue) s t said
-said_if_any w names rule second venue change (Some run) s t may said =
+said_if_any w names rule second venue change (Some missing) s t may said =
     one_news w names (IsNewsOfGap rule venue)
-    (of_gap (record { second = second; venue = venue; change = change; run = run })) s t
+    (of_gap (record { second = second; venue = venue; change = change; missing = missing })) s t
     (refl, may) said
 
 -- the same where it may only happen if there are any
 said_of_any : {E : Type 0} (w : Writing E) (names : VenueNames) (rule : GapRule)
-    (second venue : ℕ) (change : GapChange) (run : Option MissingRun) (s t : E)
-    → ((r : MissingRun) → run ≡ Some r → MayHappen rule change)
-    → SaysEach w (gap_texts_if names second venue change run) s t
+    (second venue : ℕ) (change : GapChange) (missing : Option MissingRange) (s t : E)
+    → ((r : MissingRange) → missing ≡ Some r → MayHappen rule change)
+    → SaysEach w (gap_texts_if names second venue change missing) s t
     → SaysNews w names (IsNewsOfGap rule venue) s t
 said_of_any w names rule second venue change None s t may said =
     unsaid w names (IsNewsOfGap rule venue) s t said
-said_of_any w names rule second venue change (Some run) s t may said =
-    said_if_any w names rule second venue change (Some run) s t (may run refl) said
+said_of_any w names rule second venue change (Some missing) s t may said =
+    said_if_any w names rule second venue change (Some missing) s t (may missing refl) said
 
 -- what was said where it was answered that the messages are given up
 said_if_done : {E : Type 0} (w : Writing E) (names : VenueNames) (rule : GapRule)
-    (second venue : ℕ) (due : DueGap)
+    (second venue : ℕ) (due : MissingRange)
     (done : Bool) (s t : E)
     → gives_up rule ≡ true
     → SaysEach w (if done then run_news_texts names (of_gap (news_of second venue due)) else []) s t
@@ -81,12 +83,12 @@ rule_of_due false None stood e = absurd cc
 rule_of_due false (Some ms) stood e = refl
 
 some_given_up : (rule : GapRule) (stood : ℕ) (cursors : ArbiterStatus) (gap : Option Request)
-    (due : DueGap) → due_of rule stood cursors gap ≡ Some due → gives_up rule ≡ true
+    (due : MissingRange) → due_of rule stood cursors gap ≡ Some due → gives_up rule ≡ true
 some_given_up rule stood cursors None due e = absurd cc
 some_given_up rule stood cursors (Some gap) due e =
     rule_of_due rule.join rule.after_ms stood
     (test_of_some (has_stood rule.after_ms stood)
-    (record { number = gap.number; next = gap_next cursors gap }) due e)
+    (record { first = gap.number; count = due_count cursors gap }) due e)
 
 -- where sessions are joined, too
 rule_of_join : (join more : Bool) (after : Option ℕ) → (join && more) ≡ true
@@ -94,19 +96,19 @@ rule_of_join : (join more : Bool) (after : Option ℕ) → (join && more) ≡ tr
 rule_of_join true more after e = refl
 rule_of_join false more after e = absurd cc
 
-joined_given_up : (rule : GapRule) (watch : GapWatch) (status : VenueStatus) (run : MissingRun)
-    → joined_run rule watch status ≡ Some run → gives_up rule ≡ true
-joined_given_up rule watch status run e =
+joined_given_up : (rule : GapRule) (watch : GapWatch) (status : VenueStatus)
+    (missing : MissingRange) → joined_range rule watch status ≡ Some missing → gives_up rule ≡ true
+joined_given_up rule watch status missing e =
     rule_of_join rule.join (nat_lt watch.before_join status.before_join) rule.after_ms
     (test_of_some (rule.join && nat_lt watch.before_join status.before_join)
-    (record { number = 1; count = status.before_join - watch.before_join }) run e)
+    (record { first = 1; count = status.before_join - watch.before_join }) missing e)
 
 given_up_if_due : {E : Type 0} (w : Writing E) (names : VenueNames)
-    (answers : ℕ → Bool → Type 0) (rule : GapRule) (second venue : ℕ) (due : Option DueGap)
+    (answers : ℕ → Bool → Type 0) (rule : GapRule) (second venue : ℕ) (due : Option MissingRange)
     (s t : E)
-    → ((d : DueGap) → due ≡ Some d → gives_up rule ≡ true)
+    → ((d : MissingRange) → due ≡ Some d → gives_up rule ≡ true)
     → MatchOption due (t ≡ s)
-    (λ d. TellsIfDone w names (answers d.next) (news_of second venue d) s t)
+    (λ d. TellsIfDone w names (answers (next_after d)) (news_of second venue d) s t)
     → SaysNews w names (IsNewsOfGap rule venue) s t
 given_up_if_due w names answers rule second venue None s t may told =
     unsaid w names (IsNewsOfGap rule venue) s t told
@@ -121,7 +123,7 @@ module _ {E : Type 0} (w : Writing E) (names : VenueNames) (answers : ℕ → Bo
       let P = IsNewsOfGap rule watch.venue in
       more_news w names P s told.closed t
       (said_if_any w names rule (now / 1000) watch.venue Closed
-      (closed_run watch.told status.cursors.front) s told.closed tt told.says_closed)
+      (closed_range watch.told status.cursors.front) s told.closed tt told.says_closed)
       (more_news w names P told.closed told.lacking t
       (said_if_any w names rule (now / 1000) watch.venue Lacking
       (lacking_of (told_still watch.told status.cursors.front) (stood_of watch.standing now)
@@ -139,7 +141,7 @@ of_gap_seen w names answers rule watch now status s t seen =
     let P = IsNewsOfGap rule watch.venue in
     let after = after_joins rule watch status in
     more_news w names P s seen.joined t
-    (said_of_any w names rule (now / 1000) watch.venue GivenUp (joined_run rule watch status) s
+    (said_of_any w names rule (now / 1000) watch.venue GivenUp (joined_range rule watch status) s
     seen.joined (joined_given_up rule watch status) seen.tells_joins)
     (more_news w names P seen.joined seen.told t
     (of_standing w names answers rule after now status seen.joined seen.told seen.tells)
@@ -205,6 +207,46 @@ pub news_of_look : {E : Type 0} (w : Writing E) (names : VenueNames)
 news_of_look w names shows answers rule watch now s t looked =
     of_shown w names answers rule watch now looked.status s t looked.says
 
+-- ---- what a venue has given up by itself
+
+-- the watch at a place that is there, where gaps are given up
+pub watch_there : (watches : GapWatches) (place : ℕ) (watch : GapWatch)
+    → gives_up watches.rule ≡ true → place < length watches.gaps.items
+    → watch ≡ get_or watches.gaps.items place watch → giving_up_at watches place ≡ Some watch
+watch_there watches place watch may inside is =
+    let watch_at = slice_get watches.gaps.items place in
+    ap (λ (b : Bool). if b then watch_at else None) may
+    ∙ slice_get_read watches.gaps.items (length watches.gaps.items) place watch refl inside is
+
+-- what is said of it is news of the gaps that are watched, by cases on whether it is there
+noted_if : {E : Type 0} (w : Writing E) (names : VenueNames) (watches : GapWatches)
+    (place second : ℕ) (missing : MissingRange) (b : Bool) (o : Option GapWatch) (s t : E)
+    → gives_up watches.rule ≡ b → slice_get watches.gaps.items place ≡ o
+    → SaysEach w (noted_texts names second (if b then o else None) missing) s t
+    → SaysNews w names (IsNewsOfGaps (watched_gaps watches)) s t
+noted_if w names watches place second missing false o s t may there said =
+    unsaid w names (IsNewsOfGaps (watched_gaps watches)) s t said
+noted_if w names watches place second missing true None s t may there said =
+    unsaid w names (IsNewsOfGaps (watched_gaps watches)) s t said
+noted_if w names watches place second missing true (Some watch) s t may there said =
+    let items = watches.gaps.items in
+    let within = made_within watched_venue items place watch
+    (slice_get_within items place watch there) in
+    one_news w names (IsNewsOfGaps (watched_gaps watches))
+    (of_gap (news_of second watch.venue missing)) s t (
+      subst (λ (x : GapWatch). Contains (map watched_venue items) (watched_venue x))
+          (get_or_from_slice_get items place watch watch there) within,
+      may,
+    ) said
+
+pub news_of_noted : {E : Type 0} (w : Writing E) (names : VenueNames) (watches : GapWatches)
+    (place second : ℕ) (missing : MissingRange) (s t : E)
+    → SaysEach w (noted_texts names second (giving_up_at watches place) missing) s t
+    → SaysNews w names (IsNewsOfGaps (watched_gaps watches)) s t
+news_of_noted w names watches place second missing s t said =
+    noted_if w names watches place second missing (gives_up watches.rule)
+    (slice_get watches.gaps.items place) s t refl refl said
+
 -- ---- counts
 
 -- the same texts, of things that are made of others
@@ -236,8 +278,6 @@ run_news_of_counts w run s t counted a = record {
       (sym (texts_of_made (run_news_texts run.names) of_counts a.texts ∙ each_itself a.texts))
       a.says;
 }
-
--- ---- all of a run
 
 -- ---- the venues that are watched, by their numbers
 

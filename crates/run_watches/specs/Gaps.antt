@@ -12,10 +12,9 @@ use Rattle.run_watches.specs.SessionNews.{session_news_texts}
 use Rattle.run_watches.specs.declared.session_news.SessionNews.{SessionNews}
 use Rattle.run_watches.specs.declared.gap_news.GapChange.TheVariants.{Lacking, Closed, Unanswered, GivenUp}
 use Rattle.run_watches.specs.declared.gap_news.GapNews.{GapNews}
-use Rattle.run_watches.specs.declared.gap_news.MissingRun.{MissingRun}
+use Rattle.feed_types.specs.declared.missing_range.MissingRange.{MissingRange}
 use Rattle.run_watches.specs.declared.gap_rule.GapRule.{GapRule}
 use Rattle.venue_lines.specs.declared.status.VenueStatus.{VenueStatus}
-use Rattle.run_watches.specs.declared.gap_watch.DueGap.{DueGap}
 use Rattle.run_watches.specs.declared.gap_watch.GapWatch.{GapWatch}
 use Rattle.run_watches.specs.declared.gap_watch.StandingGap.{StandingGap}
 
@@ -25,10 +24,10 @@ use Rattle.run_watches.specs.declared.gap_watch.StandingGap.{StandingGap}
 -- where the same message was the first missing one at each look since then. At the look before the
 -- venue's lines had sent `asked` requests.
 abbrev pub standing_at : Option StandingGap → (now asked : ℕ) → Request → StandingGap
-standing_at None now asked gap = record { number = gap.number; since_ms = now; asked = asked }
+standing_at None now asked gap = record { first = gap.number; since_ms = now; asked = asked }
 standing_at (Some before) now asked gap =
-    if before.number == gap.number
-    then before else record { number = gap.number; since_ms = now; asked = asked }
+    if before.first == gap.number
+    then before else record { first = gap.number; since_ms = now; asked = asked }
 
 -- the same at a look that may find none
 abbrev pub standing_after : Option StandingGap → (now asked : ℕ) → Option Request
@@ -51,35 +50,35 @@ stood_of (Some standing) now = now - standing.since_ms
 -- ---- what is told of it
 
 -- the messages that a request asks for
-abbrev pub run_of : Request → MissingRun
-run_of gap = record { number = gap.number; count = gap.count }
+abbrev pub asked_range : Request → MissingRange
+asked_range gap = record { first = gap.number; count = gap.count }
 
 -- they have come, where all up to `front` were taken in sequence or given up
-abbrev pub has_come : MissingRun → (front : ℕ) → Bool
-has_come run front = nat_le run.count (front - (run.number - 1))
+abbrev pub has_come : MissingRange → (front : ℕ) → Bool
+has_come missing front = nat_le missing.count (front - (missing.first - 1))
 
 -- of what was told to be lacking, what has come
-abbrev pub closed_run : Option MissingRun → (front : ℕ) → Option MissingRun
-closed_run None front = None
-closed_run (Some run) front = if has_come run front then Some run else None
+abbrev pub closed_range : Option MissingRange → (front : ℕ) → Option MissingRange
+closed_range None front = None
+closed_range (Some missing) front = if has_come missing front then Some missing else None
 
 -- and what hasn't
-abbrev pub told_still : Option MissingRun → (front : ℕ) → Option MissingRun
+abbrev pub told_still : Option MissingRange → (front : ℕ) → Option MissingRange
 told_still None front = None
-told_still (Some run) front = if has_come run front then None else Some run
+told_still (Some missing) front = if has_come missing front then None else Some missing
 
 -- what is to be told to be lacking: the gap that stands, once it has stood for a second, where
 -- nothing that was told is still lacking
-abbrev pub lacking_of : (told : Option MissingRun) → (stood : ℕ) → Option Request
-    → Option MissingRun
+abbrev pub lacking_of : (told : Option MissingRange) → (stood : ℕ) → Option Request
+    → Option MissingRange
 lacking_of told stood None = None
-lacking_of (Some run) stood (Some gap) = None
-lacking_of None stood (Some gap) = if nat_le 1000 stood then Some (run_of gap) else None
+lacking_of (Some missing) stood (Some gap) = None
+lacking_of None stood (Some gap) = if nat_le 1000 stood then Some (asked_range gap) else None
 
 -- what was told then
-abbrev pub told_then : Option MissingRun → Option MissingRun → Option MissingRun
+abbrev pub told_then : Option MissingRange → Option MissingRange → Option MissingRange
 told_then told None = told
-told_then told (Some run) = Some run
+told_then told (Some missing) = Some missing
 
 -- The messages were asked for since the look before the gap was found, and for two seconds it has
 -- stood.
@@ -89,16 +88,16 @@ is_unanswered standing now requests =
 
 -- what is to be told to be asked for in vain, where nothing was before
 abbrev pub unanswered_of : (told : Bool) → Option StandingGap → (now requests : ℕ) → Option Request
-    → Option MissingRun
+    → Option MissingRange
 unanswered_of told None now requests gap = None
 unanswered_of told (Some standing) now requests None = None
 unanswered_of told (Some standing) now requests (Some gap) =
-    if not told && is_unanswered standing now requests then Some (run_of gap) else None
+    if not told && is_unanswered standing now requests then Some (asked_range gap) else None
 
 -- whether any was told then
-abbrev pub said_then : Bool → Option MissingRun → Bool
+abbrev pub said_then : Bool → Option MissingRange → Bool
 said_then told None = told
-said_then told (Some run) = true
+said_then told (Some missing) = true
 
 -- A venue was looked at at this time, by a watch that has seen this status of it: it is said that
 -- what was told to be lacking has come, then that what is to be told is lacking, and then that it
@@ -110,7 +109,7 @@ pub record TellsStanding {E : Type 0} (writing : Writing E) (names : VenueNames)
   pub lacking : E
   pub says_closed : SaysEach writing
       (gap_texts_if names (now / 1000) watch.venue Closed
-      (closed_run watch.told status.cursors.front)) before closed
+      (closed_range watch.told status.cursors.front)) before closed
   pub says_lacking : SaysEach writing
       (gap_texts_if names (now / 1000) watch.venue Lacking
       (lacking_of (told_still watch.told status.cursors.front) (stood_of watch.standing now)
@@ -135,31 +134,37 @@ abbrev pub has_stood : Option ℕ → ℕ → Bool
 has_stood None stood = false
 has_stood (Some ms) stood = nat_le ms stood
 
--- The message to go on from: where none is held the one after all that is known of, and else the
--- first one that is held. No number is past the greatest one.
-abbrev pub gap_next : ArbiterStatus → Request → ℕ
-gap_next cursors gap =
-    if cursors.held == 0
-    then min (cursors.known + 1) (2 ^ 64 - 1) else min (gap.number + gap.count) (2 ^ 64 - 1)
+-- how many messages of a gap: where none is held all that is known of, and else those before the
+-- first one that is held; no number is past the greatest one
+abbrev pub due_count : ArbiterStatus → Request → ℕ
+due_count cursors gap =
+    if cursors.held == 0 then min (cursors.known + 1) (2 ^ 64 - 1) - gap.number else gap.count
 
 -- what is to be given up of a gap that has stood for this long, of a venue with these cursors
-abbrev pub due_of : GapRule → (stood : ℕ) → ArbiterStatus → Option Request → Option DueGap
+abbrev pub due_of : GapRule → (stood : ℕ) → ArbiterStatus → Option Request → Option MissingRange
 due_of rule stood cursors None = None
 due_of rule stood cursors (Some gap) =
     if has_stood rule.after_ms stood
-    then Some (record { number = gap.number; next = gap_next cursors gap }) else None
+    then Some (record { first = gap.number; count = due_count cursors gap }) else None
 
--- how many messages are given up
-abbrev pub due_count : DueGap → ℕ
-due_count due = due.next - due.number
+-- the message to go on from, where these are given up
+abbrev pub next_after : MissingRange → ℕ
+next_after missing = min (missing.first + missing.count) (2 ^ 64 - 1)
 
--- the news of these messages of a venue
-abbrev pub news_of : (second venue : ℕ) → DueGap → GapNews
-news_of second venue due = record {
+-- the watch once its venue has given up these messages, of which nothing more is told then
+abbrev pub given_up_in : GapWatch → MissingRange → GapWatch
+given_up_in watch missing = record watch {
+  told = None;
+  given_up = shown (watch.given_up + missing.count);
+}
+
+-- the news of that
+abbrev pub news_of : (second venue : ℕ) → MissingRange → GapNews
+news_of second venue missing = record {
   second = second;
   venue = venue;
   change = GivenUp;
-  run = record { number = due.number; count = due_count due };
+  missing = missing;
 }
 
 -- Where it was answered that the messages are given up, the texts of these news, and nothing else;
@@ -178,28 +183,28 @@ abbrev pub GivesUpDue : {E : Type 0} → Writing E → VenueNames → (answers :
 GivesUpDue writing names answers rule watch now status before after =
     MatchOption (due_of rule (stood_of watch.standing now) status.cursors status.gap)
     (after ≡ before)
-    (λ due. TellsIfDone writing names (answers due.next) (news_of (now / 1000) watch.venue due)
-    before after)
+    (λ due. TellsIfDone writing names (answers (next_after due))
+    (news_of (now / 1000) watch.venue due) before after)
 
 -- ---- which messages were given up where a session was joined
 
 -- Since the last look as many were given up at joins, each time from the first message on: they are
 -- told where sessions are joined.
-abbrev pub joined_run : GapRule → GapWatch → VenueStatus → Option MissingRun
-joined_run rule watch status =
+abbrev pub joined_range : GapRule → GapWatch → VenueStatus → Option MissingRange
+joined_range rule watch status =
     if rule.join && nat_lt watch.before_join status.before_join
-    then Some (record { number = 1; count = status.before_join - watch.before_join }) else None
+    then Some (record { first = 1; count = status.before_join - watch.before_join }) else None
 
 -- how many were given up of the messages that are told
-abbrev pub run_count : Option MissingRun → ℕ
-run_count None = 0
-run_count (Some run) = run.count
+abbrev pub range_count : Option MissingRange → ℕ
+range_count None = 0
+range_count (Some missing) = missing.count
 
 -- the watch once that was told
 abbrev pub after_joins : GapRule → GapWatch → VenueStatus → GapWatch
 after_joins rule watch status = record watch {
   before_join = status.before_join;
-  given_up = shown (watch.given_up + run_count (joined_run rule watch status));
+  given_up = shown (watch.given_up + range_count (joined_range rule watch status));
 }
 
 -- ---- which session has begun
@@ -252,7 +257,7 @@ pub record SaysOfGap {E : Type 0} (writing : Writing E) (names : VenueNames)
     : Type 0 where
   pub joined : E
   pub tells_joins : SaysEach writing
-      (gap_texts_if names (now / 1000) watch.venue GivenUp (joined_run rule watch status)) before
+      (gap_texts_if names (now / 1000) watch.venue GivenUp (joined_range rule watch status)) before
       joined
   pub told : E
   pub tells : TellsStanding writing names (after_joins rule watch status) now status joined told

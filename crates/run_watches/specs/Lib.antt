@@ -1,5 +1,6 @@
 pub mod GapNews
 pub mod Gaps
+pub mod GivenUps
 pub mod News
 pub mod OutputNews
 pub mod RunLines

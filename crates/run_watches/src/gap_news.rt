@@ -2,21 +2,12 @@
 ghost use Rattle.std.specs.Prelude.{◌≡◌, decimal};
 ghost use Rattle.text_out.specs.Members.{writing_of};
 ghost use Rattle.text_out.specs.StandardError.{Says, SaysEach};
-ghost use Rattle.run_watches.specs.GapNews.{gap_change_text, gap_news_texts, messages_from_text, missing_run_texts, venue_time_texts};
+ghost use Rattle.run_watches.specs.GapNews.{gap_change_text, gap_news_texts, messages_from_text, missing_range_texts, venue_time_texts};
 
-use feed_types::VenueId;
+use feed_types::{MissingRange, VenueId};
 use run_notes::write_venue_name;
 use run_settings::VenueNames;
 use text_out::{TextOut, write_number, write_stderr};
-
-/// Messages in a row that are missing.
-#[derive(Clone, Copy, Debug, PartialEq, Eq)]
-pub struct MissingRun {
-    /// The first of them.
-    pub number: u64,
-    /// How many there are.
-    pub count: u64,
-}
 
 /// What has happened to a gap.
 #[derive(Clone, Copy, Debug, PartialEq, Eq)]
@@ -41,7 +32,7 @@ pub struct GapNews {
     /// What has happened.
     pub change: GapChange,
     /// The messages to which it has happened.
-    pub run: MissingRun,
+    pub missing: MissingRange,
 }
 
 /// What stands before the count of messages.
@@ -84,12 +75,13 @@ pub(crate) fn write_venue<E: TextOut>(
 }
 
 /// Writes how many messages there are, and the first of them.
-fn write_run<E: TextOut>(run: &MissingRun, errors: &mut E)
-    ensures { SaysEach (writing_of E.TextOut) (missing_run_texts run.now) errors.old errors.new }
+fn write_range<E: TextOut>(missing: &MissingRange, errors: &mut E)
+    ensures { SaysEach (writing_of E.TextOut)
+        (missing_range_texts missing.now) errors.old errors.new }
 {
-    write_number(run.count, errors);
-    write_stderr(messages_from(run.count), errors);
-    write_number(run.number, errors);
+    write_number(missing.count, errors);
+    write_stderr(messages_from(missing.count), errors);
+    write_number(missing.first, errors);
     write_stderr("\n", errors);
 }
 
@@ -100,5 +92,5 @@ pub fn write_gap_news<E: TextOut>(names: &VenueNames, news: &GapNews, errors: &m
 {
     write_venue(names, news.second, news.venue, errors);
     write_stderr(change_text(news.change), errors);
-    write_run(&news.run, errors);
+    write_range(&news.missing, errors);
 }

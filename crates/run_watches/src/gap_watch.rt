@@ -5,12 +5,12 @@ ghost use Rattle.line_arbiter.specs.Counts.{shown};
 ghost use Rattle.text_out.specs.Members.{writing_of};
 ghost use Rattle.text_out.specs.StandardError.{SaysEach};
 ghost use Rattle.run_watches.specs.GapNews.{gap_texts_if};
-ghost use Rattle.run_watches.specs.Gaps.{GivesUpDue, LooksAt, SaysOfSession, TellsIfDone, TellsStanding, after_joins, closed_run, due_count, due_of, gap_next, has_come, watch_begun, is_unanswered, joined_run, lacking_of, news_of, run_count, run_of, said_then, standing_at, stands, stood_of, told_still, told_then, unanswered_of};
+ghost use Rattle.run_watches.specs.Gaps.{GivesUpDue, LooksAt, SaysOfSession, TellsIfDone, TellsStanding, after_joins, asked_range, closed_range, due_count, due_of, given_up_in, has_come, is_unanswered, joined_range, lacking_of, news_of, next_after, range_count, said_then, standing_at, stands, stood_of, told_still, told_then, unanswered_of, watch_begun};
 
-use crate::gap_news::{GapChange, GapNews, MissingRun, write_gap_news};
+use crate::gap_news::{GapChange, GapNews, write_gap_news};
 use crate::gap_rule::GapRule;
 use crate::session_news::{SessionNews, write_session_news};
-use feed_types::VenueId;
+use feed_types::{MissingRange, VenueId};
 use line_arbiter::ArbiterStatus;
 use mold_packet::Request;
 use run_settings::VenueNames;
@@ -27,27 +27,11 @@ const UNANSWERED_MS: u64 = 2_000;
 #[derive(Clone, Copy, Debug, PartialEq, Eq)]
 pub struct StandingGap {
     /// The first message that is missing.
-    pub number: u64,
+    pub first: u64,
     /// When it was seen first, in milliseconds of the run.
     pub since_ms: u64,
     /// How many requests the venue's lines had sent at the look before.
     pub asked: u64,
-}
-
-/// Messages that are to be given up.
-#[derive(Clone, Copy, Debug, PartialEq, Eq)]
-pub struct DueGap {
-    /// The first of them.
-    pub number: u64,
-    /// The first message after them.
-    pub next: u64,
-}
-
-/// How many messages are to be given up.
-fn due_count(due: &DueGap) -> u64
-    ensures { result ≡ due_count due.now }
-{
-    due.next.saturating_sub(due.number)
 }
 
 /// The gap that stands at a look that finds this one. At the look before the venue's lines had sent
@@ -56,9 +40,9 @@ fn standing_at(before: Option<StandingGap>, now_ms: u64, asked: u64, gap: &Reque
     ensures { result ≡ standing_at before now_ms asked gap.now }
 {
     match before {
-        Some(standing) if standing.number == gap.number => standing,
+        Some(standing) if standing.first == gap.number => standing,
         _ => StandingGap {
-            number: gap.number,
+            first: gap.number,
             since_ms: now_ms,
             asked,
         },
@@ -84,62 +68,66 @@ fn is_unanswered(standing: &StandingGap, now_ms: u64, requests: u64) -> bool
 }
 
 /// The messages that a request asks for.
-fn run_of(gap: &Request) -> MissingRun
-    ensures { result ≡ run_of gap.now }
+fn asked_range(gap: &Request) -> MissingRange
+    ensures { result ≡ asked_range gap.now }
 {
-    MissingRun {
-        number: gap.number,
+    MissingRange {
+        first: gap.number,
         count: u64::from(gap.count),
     }
 }
 
 /// Whether the messages have come, where all up to `front` were taken in sequence or given up.
-fn has_come(run: &MissingRun, front: u64) -> bool
-    ensures { result ≡ has_come run.now front }
+fn has_come(missing: &MissingRange, front: u64) -> bool
+    ensures { result ≡ has_come missing.now front }
 {
-    run.count <= front.saturating_sub(run.number.saturating_sub(1))
+    missing.count <= front.saturating_sub(missing.first.saturating_sub(1))
 }
 
 /// Of what was told to be lacking, what has come.
-fn closed_run(told: Option<MissingRun>, front: u64) -> Option<MissingRun>
-    ensures { result ≡ closed_run told front }
+fn closed_range(told: Option<MissingRange>, front: u64) -> Option<MissingRange>
+    ensures { result ≡ closed_range told front }
 {
     match told {
-        Some(run) if has_come(&run, front) => Some(run),
+        Some(missing) if has_come(&missing, front) => Some(missing),
         _ => None,
     }
 }
 
 /// Of what was told to be lacking, what hasn't come yet.
-fn told_still(told: Option<MissingRun>, front: u64) -> Option<MissingRun>
+fn told_still(told: Option<MissingRange>, front: u64) -> Option<MissingRange>
     ensures { result ≡ told_still told front }
 {
     match told {
-        Some(run) if !has_come(&run, front) => Some(run),
+        Some(missing) if !has_come(&missing, front) => Some(missing),
         _ => None,
     }
 }
 
 /// What is to be told to be lacking, if anything is: a gap that has stood for a second, where
 /// nothing that was told is still lacking.
-fn lacking_of(told: Option<MissingRun>, stood_ms: u64, gap: &Option<Request>) -> Option<MissingRun>
+fn lacking_of(
+    told: Option<MissingRange>,
+    stood_ms: u64,
+    gap: &Option<Request>,
+) -> Option<MissingRange>
     ensures { result ≡ lacking_of told stood_ms gap.now }
 {
     let Some(gap) = gap else {
         return None;
     };
     match told {
-        None if stood_ms >= TOLD_MS => Some(run_of(gap)),
+        None if stood_ms >= TOLD_MS => Some(asked_range(gap)),
         _ => None,
     }
 }
 
 /// What is told and hasn't come yet, once this was told, if it was.
-fn told_then(told: Option<MissingRun>, lacking: Option<MissingRun>) -> Option<MissingRun>
+fn told_then(told: Option<MissingRange>, lacking: Option<MissingRange>) -> Option<MissingRange>
     ensures { result ≡ told_then told lacking }
 {
     match lacking {
-        Some(run) => Some(run),
+        Some(missing) => Some(missing),
         None => told,
     }
 }
@@ -150,7 +138,7 @@ fn unanswered_of(
     standing: Option<StandingGap>,
     now_ms: u64,
     status: &VenueStatus,
-) -> Option<MissingRun>
+) -> Option<MissingRange>
     ensures { result
         ≡ unanswered_of has_told standing now_ms status.now.requests status.now.gap }
 {
@@ -159,14 +147,14 @@ fn unanswered_of(
     };
     match &status.gap {
         Some(gap) if !has_told && is_unanswered(&standing, now_ms, status.requests) => {
-            Some(run_of(gap))
+            Some(asked_range(gap))
         }
         _ => None,
     }
 }
 
 /// Whether anything was told to be asked for in vain, once this was, if it was.
-fn said_then(has_told: bool, unanswered: Option<MissingRun>) -> bool
+fn said_then(has_told: bool, unanswered: Option<MissingRange>) -> bool
     ensures { result ≡ said_then has_told unanswered }
 {
     match unanswered {
@@ -176,25 +164,32 @@ fn said_then(has_told: bool, unanswered: Option<MissingRun>) -> bool
 }
 
 /// How many messages these are; 0 where there are none.
-fn run_count(run: Option<MissingRun>) -> u64
-    ensures { result ≡ run_count run }
+fn range_count(missing: Option<MissingRange>) -> u64
+    ensures { result ≡ range_count missing }
 {
-    match run {
-        Some(run) => run.count,
+    match missing {
+        Some(missing) => missing.count,
         None => 0,
     }
 }
 
-/// The first message after those that are missing and to be given up: the first one that is held,
-/// or where none is the one after all that is known of.
-fn gap_next(cursors: &ArbiterStatus, gap: &Request) -> u64
-    ensures { result ≡ gap_next cursors.now gap.now }
+/// How many messages of a gap are to be given up: those before the first one that is held, or where
+/// none is all that is known of.
+fn due_count(cursors: &ArbiterStatus, gap: &Request) -> u64
+    ensures { result ≡ due_count cursors.now gap.now }
 {
     if cursors.held == 0 {
-        cursors.known.saturating_add(1)
+        cursors.known.saturating_add(1).saturating_sub(gap.number)
     } else {
-        gap.number.saturating_add(u64::from(gap.count))
+        u64::from(gap.count)
     }
+}
+
+/// The first message after those that are missing; 2^64 - 1 at most.
+fn next_after(missing: &MissingRange) -> u64
+    ensures { result ≡ next_after missing.now }
+{
+    missing.first.saturating_add(missing.count)
 }
 
 /// A venue, and what was seen and told of its gap.
@@ -205,7 +200,7 @@ pub struct GapWatch {
     /// How many requests the venue's lines had sent at the last look.
     requests: u64,
     /// What was told to be lacking and hasn't come yet.
-    told: Option<MissingRun>,
+    told: Option<MissingRange>,
     has_told_unanswered: bool,
     /// How many messages were given up where sessions were joined, up to the last look.
     before_join: u64,
@@ -265,20 +260,20 @@ impl GapWatch {
         names: &VenueNames,
         second: u64,
         change: GapChange,
-        run: Option<MissingRun>,
+        missing: Option<MissingRange>,
         errors: &mut E,
     )
         ensures { SaysEach (writing_of E.TextOut)
-            (gap_texts_if names.now second self.now.venue change run) errors.old errors.new }
+            (gap_texts_if names.now second self.now.venue change missing) errors.old errors.new }
     {
-        let Some(run) = run else {
+        let Some(missing) = missing else {
             return;
         };
         let news = GapNews {
             second,
             venue: self.venue,
             change,
-            run,
+            missing,
         };
         write_gap_news(names, &news, errors);
     }
@@ -307,7 +302,7 @@ impl GapWatch {
             status.now.requests status.now.gap) }
     {
         let second = now_ms / 1_000;
-        let closed = closed_run(self.told, status.cursors.front);
+        let closed = closed_range(self.told, status.cursors.front);
         let told = told_still(self.told, status.cursors.front);
         let lacking = lacking_of(told, stood_of(self.standing, now_ms), &status.gap);
         let has_told = self.has_told_unanswered;
@@ -320,7 +315,7 @@ impl GapWatch {
     }
 
     /// What is to be given up now of the gap that stands, if anything is.
-    fn due(&self, rule: &GapRule, now_ms: u64, status: &VenueStatus) -> Option<DueGap>
+    fn due(&self, rule: &GapRule, now_ms: u64, status: &VenueStatus) -> Option<MissingRange>
         ensures { result ≡ due_of rule.now (stood_of self.now.standing now_ms)
             status.now.cursors status.now.gap }
     {
@@ -331,21 +326,18 @@ impl GapWatch {
         if !rule.is_due(stood_ms) {
             return None;
         }
-        Some(DueGap {
-            number: gap.number,
-            next: gap_next(&status.cursors, gap),
+        Some(MissingRange {
+            first: gap.number,
+            count: due_count(&status.cursors, gap),
         })
     }
 
     /// Notes that these messages were given up, of which nothing more is to be told then.
-    fn pass(&mut self, due: &DueGap)
-        ensures { self.new ≡ record (self.old) {
-          told = None;
-          given_up = shown (self.old.given_up + due_count due.now);
-        } }
+    fn pass(&mut self, missing: &MissingRange)
+        ensures { self.new ≡ given_up_in self.old missing.now }
     {
         self.told = None;
-        self.given_up = self.given_up.saturating_add(due_count(due));
+        self.given_up = self.given_up.saturating_add(missing.count);
     }
 
     /// Notes that the venue has given up these messages by itself, and says it. Nothing more is to
@@ -354,20 +346,16 @@ impl GapWatch {
         &mut self,
         names: &VenueNames,
         second: u64,
-        run: MissingRun,
+        missing: MissingRange,
         errors: &mut E,
     )
-        ensures watch { self.new ≡ record (self.old) {
-          told = None;
-          given_up = shown (self.old.given_up + run.count);
-        } }
+        ensures watch { self.new ≡ given_up_in self.old missing }
         ensures tells { SaysEach (writing_of E.TextOut)
-            (gap_texts_if names.now second self.old.venue GapChange.GivenUp (Some run))
+            (gap_texts_if names.now second self.old.venue GapChange.GivenUp (Some missing))
             errors.old errors.new }
     {
-        self.told = None;
-        self.given_up = self.given_up.saturating_add(run.count);
-        self.say(names, second, GapChange::GivenUp, Some(run), errors);
+        self.pass(&missing);
+        self.say(names, second, GapChange::GivenUp, Some(missing), errors);
     }
 
     /// Gives up what is due, where `skip` does so, and says it then. `skip` goes on from a message
@@ -375,7 +363,7 @@ impl GapWatch {
     fn give_up_due<K, E>(
         &mut self,
         names: &VenueNames,
-        due: &DueGap,
+        due: MissingRange,
         second: u64,
         skip: K,
         errors: &mut E,
@@ -386,23 +374,12 @@ impl GapWatch {
         requires { K.IsAlwaysCallable skip }
         ensures venue { self.new.venue ≡ self.old.venue }
         ensures tells { TellsIfDone (writing_of E.TextOut) names.now
-            (K.post skip self.old.venue due.now.next) (news_of second self.old.venue due.now)
+            (K.post skip self.old.venue (next_after due)) (news_of second self.old.venue due)
             errors.old errors.new }
     {
-        if !skip(self.venue, due.next) {
-            return;
+        if skip(self.venue, next_after(&due)) {
+            self.note_given_up(names, second, due, errors);
         }
-        self.pass(due);
-        let news = GapNews {
-            second,
-            venue: self.venue,
-            change: GapChange::GivenUp,
-            run: MissingRun {
-                number: due.number,
-                count: due_count(due),
-            },
-        };
-        write_gap_news(names, &news, errors);
     }
 
     /// Gives up what is due of the gap that stands, and says it.
@@ -426,18 +403,18 @@ impl GapWatch {
         let Some(due) = self.due(rule, now_ms, status) else {
             return;
         };
-        self.give_up_due(names, &due, now_ms / 1_000, skip, errors);
+        self.give_up_due(names, due, now_ms / 1_000, skip, errors);
     }
 
     /// What was given up since the last look where sessions were joined, if anything was.
-    fn joined(&self, rule: &GapRule, status: &VenueStatus) -> Option<MissingRun>
-        ensures { result ≡ joined_run rule.now self.now status.now }
+    fn joined(&self, rule: &GapRule, status: &VenueStatus) -> Option<MissingRange>
+        ensures { result ≡ joined_range rule.now self.now status.now }
     {
         if !rule.join || status.before_join <= self.before_join {
             return None;
         }
-        Some(MissingRun {
-            number: 1,
+        Some(MissingRange {
+            first: 1,
             count: status.before_join - self.before_join,
         })
     }
@@ -454,12 +431,12 @@ impl GapWatch {
         ensures watch { self.new ≡ after_joins rule.now self.old status.now }
         ensures tells { SaysEach (writing_of E.TextOut)
             (gap_texts_if names.now (now_ms / 1000) self.old.venue GapChange.GivenUp
-            (joined_run rule.now self.old status.now)) errors.old errors.new }
+            (joined_range rule.now self.old status.now)) errors.old errors.new }
     {
         let joined = self.joined(rule, status);
         self.say(names, now_ms / 1_000, GapChange::GivenUp, joined, errors);
         self.before_join = status.before_join;
-        self.given_up = self.given_up.saturating_add(run_count(joined));
+        self.given_up = self.given_up.saturating_add(range_count(joined));
     }
 
     /// Says which session has begun since the last look, if one has. The one before is over, so

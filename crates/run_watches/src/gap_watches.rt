@@ -1,14 +1,15 @@
 //! The gaps of a run's venues as the thread beside the run sees them.
 ghost use Rattle.std.specs.List.{range_with_len};
-ghost use Rattle.std.specs.Prelude.{◌≡◌, ◌≤◌, IfOk, map};
+ghost use Rattle.std.specs.Prelude.{◌≡◌, ◌≤◌, ◌/◌, IfOk, map};
 ghost use Rattle.text_out.specs.Members.{writing_of};
+ghost use Rattle.text_out.specs.StandardError.{SaysEach};
+ghost use Rattle.run_watches.specs.GivenUps.{NotesGivenUp, giving_up_at, noted_texts};
 ghost use Rattle.run_watches.specs.RunLines.{told_gaps, watched_gaps, watched_venue};
 ghost use Rattle.run_watches.specs.RunNews.{IsNewsOfGaps, SaysNews};
 
-use crate::gap_news::MissingRun;
 use crate::gap_rule::GapRule;
 use crate::gap_watch::GapWatch;
-use feed_types::VenueId;
+use feed_types::{MissingRange, VenueId};
 use run_settings::{ListenSettings, VenueNames};
 use std::alloc::{AllocError, Global};
 use text_out::TextOut;
@@ -59,45 +60,20 @@ impl GapWatches {
         names: &VenueNames,
         elapsed_ms: u64,
         venue: VenueId,
-        run: MissingRun,
+        missing: MissingRange,
         errors: &mut E,
     )
         ensures gaps { watched_gaps self.new ≡ watched_gaps self.old }
-        ensures says { SaysNews (writing_of E.TextOut) names.now
-            (IsNewsOfGaps (watched_gaps self.old)) errors.old errors.new }
+        ensures notes { NotesGivenUp self.old venue missing self.new }
+        ensures says { SaysEach (writing_of E.TextOut)
+            (noted_texts names.now (elapsed_ms / 1000) (giving_up_at self.old venue) missing)
+            errors.old errors.new }
     {
         if !self.rule.gives_up() {
             return;
         }
         match self.gaps.get_mut(venue.index()) {
-            Some(gap) => gap.note_given_up(names, elapsed_ms / 1_000, run, errors),
-            None => {}
-        }
-    }
-
-    /// Looks at the venue at a place, if there is one.
-    fn look_at<S, K, E>(
-        &mut self,
-        names: &VenueNames,
-        place: usize,
-        elapsed_ms: u64,
-        status: S,
-        skip: K,
-        errors: &mut E,
-    )
-    where
-        S: Fn(VenueId) -> Option<VenueStatus>,
-        K: Fn(VenueId, u64) -> bool,
-        E: TextOut,
-        requires status { S.IsAlwaysCallable status }
-        requires skip { K.IsAlwaysCallable skip }
-        ensures gaps { watched_gaps self.new ≡ watched_gaps self.old }
-        ensures says { SaysNews (writing_of E.TextOut) names.now
-            (IsNewsOfGaps (watched_gaps self.old)) errors.old errors.new }
-    {
-        let rule = self.rule;
-        match self.gaps.get_mut(place) {
-            Some(gap) => gap.look(names, &rule, elapsed_ms, status, skip, errors),
+            Some(gap) => gap.note_given_up(names, elapsed_ms / 1_000, missing, errors),
             None => {}
         }
     }
@@ -128,8 +104,13 @@ impl GapWatches {
             return;
         }
         self.due_ms = elapsed_ms.saturating_add(LOOK_MS);
-        for place in 0..self.gaps.len() {
-            self.look_at(names, place, elapsed_ms, &status, &skip, errors);
+        let rule = self.rule;
+        let gaps = &mut self.gaps;
+        for place in 0..gaps.len() {
+            match gaps.get_mut(place) {
+                Some(gap) => gap.look(names, &rule, elapsed_ms, &status, &skip, errors),
+                None => {}
+            }
         }
     }
 }

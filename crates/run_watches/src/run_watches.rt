@@ -1,10 +1,11 @@
 //! What the thread beside a run watches of it.
-ghost use Rattle.std.specs.Prelude.{◌≡◌, is_some};
+ghost use Rattle.std.specs.Prelude.{◌≡◌, ◌/◌, is_some};
 ghost use Rattle.text_out.specs.Members.{writing_of};
+ghost use Rattle.text_out.specs.StandardError.{SaysEach};
+ghost use Rattle.run_watches.specs.GivenUps.{NotesGivenUp, giving_up_at, noted_texts};
 ghost use Rattle.run_watches.specs.RunLines.{watched_gaps, watched_lines, watched_run};
 ghost use Rattle.run_watches.specs.RunNews.{SaysRunEnd, SaysRunNews};
 
-use crate::gap_news::MissingRun;
 use crate::gap_watches::GapWatches;
 use crate::line_watch::LineWatches;
 use crate::listen_counts::ListenCounts;
@@ -12,7 +13,7 @@ use crate::metrics_server::{MetricsServer, RunSeen};
 use crate::moment::Moment;
 use crate::output_watch::OutputWatch;
 use crate::venue_statuses::{AllFigures, NO_FIGURES, VenueStatuses, statuses_by};
-use feed_types::{MAX_VENUES, VenueId};
+use feed_types::{MAX_VENUES, MissingRange, VenueId};
 use run_settings::VenueNames;
 use socket_tables::DropTable;
 use text_out::TextOut;
@@ -124,24 +125,27 @@ impl RunWatches {
         }
     }
 
-    /// Notes that a venue has given up `count` messages from `number` on by itself, where the run
-    /// gives up gaps, and says it. A look at its gaps comes after that.
+    /// Notes that a venue has given up these messages by itself, where the run gives up gaps, and
+    /// says it. A look at its gaps comes after that.
     pub fn note_given_up<E: TextOut>(
         &mut self,
         elapsed_ms: u64,
         venue: VenueId,
-        number: u64,
-        count: u64,
+        missing: MissingRange,
         errors: &mut E,
     )
         ensures run { watched_run self.new ≡ watched_run self.old }
         ensures news { SaysRunNews (writing_of E.TextOut)
             (watched_run self.old) errors.old errors.new }
+        ensures rest { self.new ≡ record (self.old) { gaps = self.new.gaps } }
+        ensures notes { NotesGivenUp self.old.gaps venue missing self.new.gaps }
+        ensures says { SaysEach (writing_of E.TextOut)
+            (noted_texts self.old.names (elapsed_ms / 1000) (giving_up_at self.old.gaps venue)
+            missing) errors.old errors.new }
     {
-        let run = MissingRun { number, count };
         let names = &self.names;
         self.gaps
-            .note_given_up(names, elapsed_ms, venue, run, errors);
+            .note_given_up(names, elapsed_ms, venue, missing, errors);
     }
 
     /// Looks at the gaps of the venues, says what is new of them and gives up what is due, as

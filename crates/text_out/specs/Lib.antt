@@ -5,5 +5,6 @@ pub mod Placing
 pub mod Pages
 pub mod StandardError
 pub mod Fields
+pub mod TextParts
 -- laws, which proofs of the crates above cite
 pub mod laws

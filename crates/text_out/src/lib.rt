@@ -9,6 +9,10 @@
 //! others of `parts.rt`, `specs/Pages.antt`), or placed in the room after the text, where a whole
 //! line has room (`fields.rt`, `specs/Placing.antt`).
 //!
+//! Reports and pages, which are written once, are a `Vec` that grows by [`TextPart`]s, labels and
+//! numbers ([`put_parts`], `specs/TextParts.antt`). Rows of a replay are put by `parts.rt`, which
+//! stores into room that was made for a whole row: the special way for speed.
+//!
 //! Begin with `devices.rt`, then `page.rt`.
 #![tactic(auto)]
 
@@ -22,6 +26,7 @@ mod page;
 mod parts;
 mod standard_error;
 mod system;
+mod text_parts;
 
 pub use count::Count;
 pub use devices::{CaptureIn, ReadStop, TextOut, WriteStop};
@@ -35,3 +40,6 @@ pub use page::LineBuffer;
 pub use parts::{put_bytes, put_name, put_number, put_price};
 pub use standard_error::{write_number, write_stderr};
 pub use system::{StreamIn, StreamOut};
+pub use text_parts::{
+    LabelledNumber, NumberStyle, TextPart, put_digits, put_filled, put_labelled, put_parts, spaces,
+};

@@ -227,12 +227,28 @@ took {S} brings waits l m n xs b venue sorting socket kept none here = record {
 
 -- a line of which only the socket, what is kept and what waits has changed, twice
 pub moved_more : {S : Type 0} (l m n : UdpLineState S)
-    → m ≡ record l { socket = m.socket; kept = m.kept; waiting = m.waiting }
-    → n ≡ record m { socket = n.socket; kept = n.kept; waiting = n.waiting }
-    → n ≡ record l { socket = n.socket; kept = n.kept; waiting = n.waiting }
+    → m ≡ record l {
+      socket = m.socket;
+      kept = m.kept;
+      waiting = m.waiting;
+      answered = m.answered;
+    }
+    → n ≡ record m {
+      socket = n.socket;
+      kept = n.kept;
+      waiting = n.waiting;
+      answered = n.answered;
+    }
+    → n ≡ record l {
+      socket = n.socket;
+      kept = n.kept;
+      waiting = n.waiting;
+      answered = n.answered;
+    }
 moved_more {S} l m n a b =
     b ∙ ap (λ (x : UdpLineState S). record x {
       socket = n.socket;
       kept = n.kept;
       waiting = n.waiting;
+      answered = n.answered;
     }) a

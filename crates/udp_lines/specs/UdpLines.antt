@@ -1,6 +1,13 @@
 -- A line that is received by UDP, as contracts see it.
-use Rattle.std.specs.Prelude.{◌≡◌, ◌⊎◌, ℕ, ◌==◌, ◌&&◌, not, Bool, true, false, IsTrue, List, [], ◌∷◌, ◌++◌, Option, Some, None, Result, Ok, is_some}
+use Rattle.std.specs.Prelude.{◌≡◌, ◌⊎◌, ℕ, ◌==◌, ◌&&◌, not, Bool, true, false, IsTrue, MatchBool, List, [], ◌∷◌, ◌++◌, Option, Some, None, Result, Ok, is_some, if◌then◌else◌}
+use Rattle.std.specs.declared.alloc.Global.{Global}
 use Rattle.std.specs.declared.net.socket_addr.SocketAddr.{SocketAddr}
+use Rattle.std.specs.declared.sync.Arc.{Arc}
+use Rattle.std.specs.declared.sync.atomic.AtomicBool.{AtomicBool}
+use Rattle.feed_types.specs.declared.line.LineId.{LineId}
+use Rattle.feed_types.specs.declared.line.LineId.TheVariants as lines
+use Rattle.udp_lines.specs.declared.line_use.LineUse.{LineUse}
+use Rattle.udp_lines.specs.declared.line_use.LineUse.TheVariants as uses
 use Rattle.udp_lines.specs.declared.intake.Intake.{Intake}
 use Rattle.run_settings.specs.Senders.{senders_of}
 use Rattle.line_recordings.specs.declared.record_sender.RecordSender.{RecordSender}
@@ -13,26 +20,38 @@ use Rattle.run_settings.specs.declared.end_rule.EndRule.TheVariants.{AnySession,
 use Rattle.udp_lines.specs.EndsOfSessions.{SpellsEndOf}
 use Rattle.udp_lines.specs.Brought.{HasMet, Kept, SortingRule}
 
--- the venue, its session, which ends of session end the line, the senders whose datagrams it
--- brings, where any are named, how many it may still read, if there is any limit, whether its
--- socket has failed, whether an end that was its last datagram has ended it, or its time, and the
--- session of such an end; the most that a number may be ahead, if that is asked; the socket, what
--- the line keeps of what that has brought, and the datagram that is there for the next call; and
--- where it hands over what its venue took, if that is recorded
+-- the venue, which of its lines it is, the session, which ends of session end the line, the senders
+-- whose datagrams it brings, where any are named, how many it may still read, if there is a limit,
+-- and after which moment it reads none, if after any; whether its socket has failed, whether an end
+-- that was its last datagram has ended it, or its time, the session of such an end, and the mark
+-- that shows whether a reply is awaited, if there is one; the most that a number may be ahead, if
+-- that is asked; the socket, what the line keeps of what that has brought, the datagram that is
+-- there for the next call, and whether what that call answers is there; and where the line hands
+-- over what its venue took, if that is recorded
 pub record UdpLineState (S : Type 0) : Type 0 where
   pub venue : ℕ
+  pub line : LineId
   pub session : List ℕ
   pub rule : EndRule
   pub senders : Option (List AllowedSender)
   pub left : Option ℕ
+  pub deadline : Option ℕ
   pub failed : Bool
   pub ended : Bool
   pub ender : Option (List ℕ)
+  pub awaited : Option (Arc AtomicBool Global)
   pub most_ahead : Option ℕ
   pub socket : S
   pub kept : Kept
   pub waiting : List (List ℕ)
+  pub answered : Bool
   pub records : Option RecordSender
+
+-- which of its venue's lines it is, by its use
+abbrev pub line_of : LineUse → LineId
+line_of uses.A = lines.A
+line_of uses.B = lines.B
+line_of (uses.Recovery others) = lines.Recovery
 
 -- by what the line sorts datagrams
 abbrev pub sorting_of : {S : Type 0} → UdpLineState S → SortingRule
@@ -113,6 +132,45 @@ pub record IsEndedBy {S : Type 0} (bytes : List ℕ) (line : UdpLineState S) : T
   pub none_left : line.left ≡ Some 0
   pub ended : line.ended ≡ true
   pub ender : (session : List ℕ) → SpellsEndOf session bytes → line.ender ≡ Some session
+
+-- an end of session has ended the line, and a mark shows whether it reads on for a reply
+abbrev pub may_read_on : {S : Type 0} → UdpLineState S → Bool
+may_read_on line = is_some line.awaited && is_some line.ender
+
+-- it looks at that mark: unless its socket has failed, or the next call's answer is there
+abbrev pub looks_for_reply : {S : Type 0} → UdpLineState S → Bool
+looks_for_reply line = may_read_on line && (not line.failed && not line.answered)
+
+-- the line once the mark has shown whether a reply is awaited: it reads on, or has ended
+abbrev pub read_on_by : {S : Type 0} → (awaits : Bool) → UdpLineState S → UdpLineState S
+read_on_by awaits line =
+    record line { left = if awaits then None else Some 0; ended = not awaits }
+
+-- the line has looked whether it reads on, where it does
+abbrev pub HasReadOn : {S : Type 0} → (old new : UdpLineState S) → Type 0
+HasReadOn old new =
+    MatchBool (looks_for_reply old) ((awaits : Bool) × (new ≡ read_on_by awaits old)) (new ≡ old)
+
+-- What may end a line without a datagram: its time, if it has one, or the end of its venue's other
+-- lines, if it is line R.
+abbrev pub MayEndInTime : {S : Type 0} → UdpLineState S → Type 0
+MayEndInTime line = IsTrue (is_some line.deadline) ⊎ (line.line ≡ lines.Recovery)
+
+-- the line hasn't ended in time, or it has: then it might, hadn't ended before, and had no answer
+-- for the next call
+abbrev pub HasEndedInTime : {S : Type 0} → (old new : UdpLineState S) → Type 0
+HasEndedInTime old new =
+    (new ≡ old)
+    ⊎ (MayEndInTime old × (old.failed ≡ false) × (is_none_left old.left ≡ false)
+    × (old.answered ≡ false) × (new ≡ record old { left = Some 0; ended = true }))
+
+-- What a wait changes of whether the line has ended. One that looks for a reply reads on, without a
+-- limit, or has ended; any other stays as it was, or has ended in time.
+abbrev pub HasAwaited : {S : Type 0} → (old new : UdpLineState S) → Type 0
+HasAwaited old new =
+    MatchBool (looks_for_reply old) (new.left ≡ (if new.ended then Some 0 else None))
+    (((new.left ≡ old.left) × (new.ended ≡ old.ended))
+    ⊎ (MayEndInTime old × (new.left ≡ Some 0) × (new.ended ≡ true)))
 
 -- an end that ends a line, by a datagram that is an end of the session `ended`, or of none
 abbrev pub IsLast : EndRule → List ℕ → Option (List ℕ) → Type 0

@@ -1,5 +1,8 @@
 //! Which of its venue's lines a line is.
 
+ghost use Rattle.std.specs.Prelude.{◌≡◌, true};
+ghost use Rattle.udp_lines.specs.UdpLines.{line_of};
+
 use crate::line_progress::LineProgress;
 use feed_types::LineId;
 
@@ -15,7 +18,9 @@ pub enum LineUse {
 
 impl LineUse {
     /// The line.
-    pub(crate) fn line(&self) -> LineId {
+    pub(crate) fn line(&self) -> LineId
+        ensures { result ≡ line_of self.now }
+    {
         match self {
             LineUse::A => LineId::A,
             LineUse::B => LineId::B,
@@ -24,7 +29,9 @@ impl LineUse {
     }
 
     /// Whether the lines have ended with which it ends.
-    pub(crate) fn is_over(&self) -> bool {
+    pub(crate) fn is_over(&self) -> bool
+        ensures { result ≡ true → line_of self.now ≡ LineId.Recovery }
+    {
         match self {
             LineUse::A | LineUse::B => false,
             LineUse::Recovery(lines) => lines.iter().all(LineProgress::is_over),

@@ -7,7 +7,7 @@ ghost use Rattle.venue_lines.specs.Sources.{brought_in, failures_after};
 ghost use Rattle.run_settings.specs.Senders.{senders_of};
 ghost use Rattle.udp_lines.specs.Brought.{nothing_kept, withheld_of};
 ghost use Rattle.udp_lines.specs.EndsOfSessions.{SpellsEndOf};
-ghost use Rattle.udp_lines.specs.UdpLines.{EndsLine, HasBrought, IsEndedBy, IsOver, failures_of, is_none_left, is_read_out, waiting_in};
+ghost use Rattle.udp_lines.specs.UdpLines.{EndsLine, HasAwaited, HasBrought, HasEndedInTime, HasReadOn, IsEndedBy, IsOver, failures_of, is_none_left, is_read_out, line_of, looks_for_reply, may_read_on, read_on_by, waiting_in};
 
 use crate::datagram_in::DatagramIn;
 use crate::intake::Intake;
@@ -103,30 +103,37 @@ pub struct UdpLine<S, C> {
 
 impl<S, C> Model for UdpLine<S, C> {
     ghost use Rattle.run_settings.specs.Senders.{senders_of};
-    ghost use Rattle.udp_lines.specs.UdpLines.{UdpLineState, kept_in, waiting_in};
+    ghost use Rattle.std.specs.Prelude.{is_some};
+    ghost use Rattle.udp_lines.specs.UdpLines.{UdpLineState, kept_in, line_of, waiting_in};
 
     ghost Value = { UdpLineState S };
 
     ghost view = { λ l. record {
       venue = l.line_venue;
+      line = line_of l.line_use;
       session = l.intake.check.session;
       rule = l.intake.check.end_rule;
       senders = senders_of l.intake.line_socket.senders;
       left = l.to_read;
+      deadline = l.deadline_ms;
       failed = l.broken;
       ended = l.at_end;
       ender = l.ender;
+      awaited = l.awaited;
       most_ahead = l.intake.check.most_ahead;
       socket = l.intake.line_socket.socket;
       kept = kept_in l.intake;
       waiting = waiting_in l.received;
+      answered = is_some l.received;
       records = l.records;
     } };
 }
 
 /// The moment of the clock `seconds` seconds from now, in milliseconds; None where there is no such
 /// number, or where the clock can't be read.
-fn deadline_of<C: Clock>(clock: &C, seconds: Option<u32>) -> Option<u64> {
+fn deadline_of<C: Clock>(clock: &C, seconds: Option<u32>) -> Option<u64>
+    ensures { seconds ≡ None → result ≡ None }
+{
     match (seconds, clock.monotonic()) {
         (Some(seconds), Ok(now)) => Some(millis(now).saturating_add(u64::from(seconds) * 1_000)),
         _ => None,
@@ -174,16 +181,21 @@ impl<S: DatagramIn + Drop, C: Clock + Drop> UdpLine<S, C> {
         clock: C,
     ) -> Result<UdpLine<S, C>, AllocError>
         ensures venue { IfOk result (λ line. line.venue ≡ settings.venue) }
+        ensures line { IfOk result (λ line. line.line ≡ line_of settings.line) }
         ensures session { IfOk result (λ line. line.session ≡ settings.session) }
         ensures rule { IfOk result (λ line. line.rule ≡ settings.end) }
         ensures senders { IfOk result (λ line. line.senders ≡ senders_of settings.senders) }
         ensures left { IfOk result (λ line. line.left ≡ settings.datagrams) }
+        ensures deadline { settings.seconds ≡ None
+            → IfOk result (λ line. line.deadline ≡ None) }
         ensures most_ahead { IfOk result (λ line. line.most_ahead ≡ settings.most_ahead) }
         ensures whole { IfOk result (λ line. line.failed ≡ false) }
         ensures unended { IfOk result (λ line. line.ended ≡ false) }
         ensures ender { IfOk result (λ line. line.ender ≡ None) }
+        ensures awaited { IfOk result (λ line. line.awaited ≡ None) }
         ensures kept { IfOk result (λ line. line.kept ≡ nothing_kept) }
         ensures waiting { IfOk result (λ line. line.waiting ≡ []) }
+        ensures answered { IfOk result (λ line. line.answered ≡ false) }
         ensures records { IfOk result (λ line. line.records ≡ settings.records) }
     {
         socket.wait_each(Duration::from_millis(WAIT_MS));
@@ -228,7 +240,9 @@ impl<S: DatagramIn + Drop, C: Clock + Drop> UdpLine<S, C> {
     }
 
     /// Whether the time is over in which the line reads datagrams.
-    fn is_late(&self) -> bool {
+    fn is_late(&self) -> bool
+        ensures { result ≡ true → IsTrue (is_some self.now.deadline) }
+    {
         let Some(deadline_ms) = self.deadline_ms else {
             return false;
         };
@@ -238,8 +252,10 @@ impl<S: DatagramIn + Drop, C: Clock + Drop> UdpLine<S, C> {
         }
     }
 
-    /// Returns whether a reply is awaited, for which the line reads on.
-    fn is_reply_awaited(&self) -> bool {
+    /// Returns whether a reply is awaited, for which the line reads on. Without a mark none is.
+    fn is_reply_awaited(&self) -> bool
+        ensures { result ≡ true → IsTrue (is_some self.now.awaited) }
+    {
         match &self.awaited {
             Some(awaited) => awaited.load(Ordering::SeqCst),
             None => false,
@@ -251,16 +267,11 @@ impl<S: DatagramIn + Drop, C: Clock + Drop> UdpLine<S, C> {
     fn read_on(&mut self)
         ensures rest { self.new
             ≡ record (self.old) { left = self.new.left; ended = self.new.ended } }
-        ensures unended { self.old.ender ≡ None → self.new ≡ self.old }
+        ensures looked { HasReadOn self.old self.new }
     {
-        if !self.may_read_on() || self.broken || self.received.is_some() {
-            return;
-        }
-        let reads_on = self.is_reply_awaited();
-        self.at_end = !reads_on;
-        self.to_read = if reads_on { None } else { Some(0) };
-        if !reads_on {
-            self.mark_ender();
+        if self.looks_for_reply() {
+            let awaits = self.is_reply_awaited();
+            self.read_on_by(awaits);
         }
     }
 
@@ -270,7 +281,7 @@ impl<S: DatagramIn + Drop, C: Clock + Drop> UdpLine<S, C> {
     fn end_in_time(&mut self)
         ensures rest { self.new
             ≡ record (self.old) { left = self.new.left; ended = self.new.ended } }
-        ensures other { self.new.ended ≡ false → self.new ≡ self.old }
+        ensures in_time { HasEndedInTime self.old self.new }
     {
         if self.broken || is_none_left(self.to_read) || self.received.is_some() {
             return;
@@ -314,6 +325,7 @@ impl<S: DatagramIn + Drop, C: Clock + Drop> UdpLine<S, C> {
           socket = self.new.socket;
           kept = self.new.kept;
           waiting = self.new.waiting;
+          answered = self.new.answered;
         } }
     {
         self.received = match self.intake.next() {
@@ -332,6 +344,7 @@ impl<S: DatagramIn + Drop, C: Clock + Drop> UdpLine<S, C> {
           socket = self.new.socket;
           kept = self.new.kept;
           waiting = self.new.waiting;
+          answered = self.new.answered;
         } }
     {
         if self.broken || is_none_left(self.to_read) || self.received.is_some() {
@@ -350,9 +363,10 @@ impl<S: Drop, C: Drop> UdpLine<S, C> {
         self.intake.check.earlier = earlier;
     }
 
-    /// Has the line read on after an end of session as long as this says that a reply is awaited.
+    /// Has the line read on after an end of session as long as this mark shows that a reply is
+    /// awaited.
     pub fn read_on_for(&mut self, awaited: Arc<AtomicBool, Global>)
-        ensures { self.new ≡ self.old }
+        ensures { self.new ≡ record (self.old) { awaited = Some awaited } }
     {
         self.awaited = Some(awaited);
     }
@@ -365,9 +379,28 @@ impl<S: Drop, C: Drop> UdpLine<S, C> {
 
     /// Returns whether an end of session has ended the line after which it may read on.
     fn may_read_on(&self) -> bool
-        ensures { result ≡ true → IsTrue (is_some self.now.ender) }
+        ensures { result ≡ may_read_on self.now }
     {
         self.awaited.is_some() && self.ender.is_some()
+    }
+
+    /// Returns whether the line looks if a reply is awaited: it may read on, and neither has failed
+    /// nor has the next call's answer.
+    fn looks_for_reply(&self) -> bool
+        ensures { result ≡ looks_for_reply self.now }
+    {
+        self.may_read_on() && !self.broken && self.received.is_none()
+    }
+
+    /// Has the line read on, without a limit, where a reply is awaited, and end where none is.
+    fn read_on_by(&mut self, awaits: bool)
+        ensures { self.new ≡ read_on_by awaits self.old }
+    {
+        self.to_read = if awaits { None } else { Some(0) };
+        self.at_end = !awaits;
+        if !awaits {
+            self.mark_ender();
+        }
     }
 
     /// Marks the session whose end has ended the line, if one has.
@@ -468,6 +501,7 @@ impl<S: DatagramIn + Drop, C: Clock + Drop> UdpLine<S, C> {
           socket = self.new.socket;
           kept = self.new.kept;
           waiting = self.new.waiting;
+          answered = self.new.answered;
         } }
     {
         for _ in 0..u64::MAX {
@@ -480,7 +514,7 @@ impl<S: DatagramIn + Drop, C: Clock + Drop> UdpLine<S, C> {
     /// Takes what was received for the next call.
     fn take_received(&mut self) -> Option<Result<Datagram, SourceFault>>
         ensures waiting { waiting_in result ≡ self.old.waiting }
-        ensures rest { self.new ≡ record (self.old) { waiting = [] } }
+        ensures rest { self.new ≡ record (self.old) { waiting = []; answered = false } }
     {
         self.received.take()
     }
@@ -574,7 +608,18 @@ impl<S: DatagramIn + Drop, C: Clock + Drop> LineSource<Anything> for UdpLine<S, 
         self.line_venue
     }
 
-    fn await_next(&mut self) -> bool {
+    fn await_next(&mut self) -> bool
+        ensures brings { HasBrought S.brings S.waits self.old [] self.new }
+        ensures rest { self.new ≡ record (self.old) {
+          left = self.new.left;
+          ended = self.new.ended;
+          socket = self.new.socket;
+          kept = self.new.kept;
+          waiting = self.new.waiting;
+          answered = self.new.answered;
+        } }
+        ensures awaited { HasAwaited self.old self.new }
+    {
         self.read_on();
         self.end_in_time();
         self.poll()

@@ -3,9 +3,11 @@ pub mod Ends
 pub mod Following
 pub mod Gathering
 pub mod Lacks
+pub mod Looked
 pub mod Monitored
 pub mod NamedNext
 pub mod Noting
 pub mod Recorded
+pub mod Seen
 pub mod Sourced
 pub mod Wholes

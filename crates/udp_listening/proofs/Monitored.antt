@@ -21,6 +21,7 @@ use Rattle.run_settings.specs.declared.listen_settings.ListenSettings.{ListenSet
 use Rattle.udp_listening.specs.Reports.{IsListened, IsReportOfFeed, IsReportOfRun, any_lines, reported_line, seat_line, task_line}
 use Rattle.run_watches.specs.RunLines.{watched_run}
 use Rattle.udp_listening.specs.Lines.{LineState, run_lines, venue_of_line}
+use Rattle.udp_listening.specs.NamedNext.{AreNextOf}
 use Rattle.run_watches.specs.RunNews.{SaysOfRun}
 use Rattle.udp_listening.specs.Settings.{feed_setting}
 use Rattle.udp_listening.specs.declared.console.Console.{Console}
@@ -179,16 +180,17 @@ module _ {G N C W : Type 0} (settings : ListenSettings) (writing : Writing W) (l
 pub listened_if_run : (settings : ListenSettings) (sockets : List BoundLine) (lanes : FeedLanes)
     (lines : List (ℕ × LineId)) (outcome : Result ListenReport ListenFault)
     → lanes.setting ≡ feed_setting settings
-    → length lanes.venues ≡ vec_len settings.feed.sessions
+    → length lanes.venues ≡ vec_len settings.feed.sessions → AreNextOf settings lanes.next
     → lines ≡ run_lines settings sockets
     → IfOk outcome (IsReportOfRun settings lanes lines) → IfOk outcome (IsListened settings sockets)
-listened_if_run settings sockets lanes lines (Ok report) setting venues same run = record {
+listened_if_run settings sockets lanes lines (Ok report) setting venues next same run = record {
   lanes = lanes;
   setting = setting;
   venues = venues;
+  next = next;
   run = subst (λ (l : List (ℕ × LineId)). IsReportOfRun settings lanes l report) same run;
 }
-listened_if_run settings sockets lanes lines (Err fault) setting venues same run = tt
+listened_if_run settings sockets lanes lines (Err fault) setting venues next same run = tt
 
 -- what was printed, by cases on whether there is a report
 pub listened_by : {C W : Type 0} (writing : Writing W) (before after : Console C W)

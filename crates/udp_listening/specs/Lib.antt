@@ -1,5 +1,6 @@
 pub mod Bound
 pub mod ItchEnds
+pub mod ItchReports
 pub mod ItchShown
 pub mod Lines
 pub mod Listening

@@ -18,6 +18,7 @@ use Rattle.run_settings.specs.declared.listen_settings.ListenSettings.{ListenSet
 use Rattle.itch_lines.specs.FeedLines.{source_of}
 use Rattle.udp_listening.specs.ItchEnds.{itch_lacks}
 use Rattle.udp_listening.specs.Lines.{LineState, run_lines, venue_of_line}
+use Rattle.udp_listening.specs.NamedNext.{AreNextOf}
 use Rattle.udp_listening.specs.Settings.{feed_setting}
 use Rattle.udp_listening.specs.SettledLacks.{settled_lacks}
 use Rattle.udp_listening.specs.SettledNotices.{settled_notices}
@@ -136,11 +137,13 @@ pub record IsReportOfRun (settings : ListenSettings) (lanes : FeedLanes)
   pub settled : IsSettlement any_lines lanes seats (log ∷ []) whole.settlement
   pub tells : IsReportOfFeed settings whole report
 
--- The feed of the settings, with a venue for each of their sessions, was run over the lines of
--- these sockets, and settled, and the report is that of its whole life.
+-- The feed of the settings, with a venue for each of their sessions, which the settings' further
+-- sessions of the venue follow, was run over the lines of these sockets, and settled, and the
+-- report is that of its whole life.
 pub record IsListened (settings : ListenSettings) (sockets : List BoundLine)
     (report : ListenReport) : Type 0 where
   pub lanes : FeedLanes
   pub setting : lanes.setting ≡ feed_setting settings
   pub venues : length lanes.venues ≡ vec_len settings.feed.sessions
+  pub next : AreNextOf settings lanes.next
   pub run : IsReportOfRun settings lanes (run_lines settings sockets) report

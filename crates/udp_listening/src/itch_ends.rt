@@ -1,19 +1,18 @@
 //! What the venues of a run in ITCH have come to.
 ghost use Rattle.text_out.specs.Members.{writing_of};
 ghost use Rattle.std.specs.Prelude.{◌≡◌, ◌++◌, [], IfOk, OnOk, flat_map};
-ghost use Rattle.event_sinks.specs.VenueGapTexts.{messages_text};
 ghost use Rattle.event_sinks.specs.VenueGaps.{venue_gap};
 ghost use Rattle.text_out.specs.StandardError.{SaysEach};
-ghost use Rattle.udp_listening.specs.ItchEnds.{book_fault_text, book_fault_texts, itch_lacks, itch_texts, unquoted_texts};
+ghost use Rattle.udp_listening.specs.ItchEnds.{book_fault_texts_if, unquoted_texts_if, itch_lacks, itch_texts};
 
 use event_sinks::VenueGap;
-use feed_types::VenueId;
+use feed_types::{MissingRange, VenueId};
 use itch_book::BookFault;
-use itch_lines::{ItchVenueEnd, MessageRun, VenueShare};
-use run_notes::{write_named_venue, write_venue_name};
+use itch_lines::{ItchVenueEnd, VenueShare};
+use run_notes::{write_book_fault, write_unquoted};
 use run_settings::{ListenSettings, VenueNames};
 use std::alloc::{AllocError, Global};
-use text_out::{TextOut, write_number, write_stderr};
+use text_out::TextOut;
 
 /// Returns what the venues in ITCH have come to, by what their lines share; none where the settings
 /// have no such venue.
@@ -60,66 +59,34 @@ pub(crate) fn append_itch_lacks(
     Ok(())
 }
 
-/// What stands between a count of messages and the first of them.
-fn messages(count: u64) -> &'static str
-    ensures { result.now ≡ messages_text count }
-{
-    if count == 1 {
-        " message from "
-    } else {
-        " messages from "
-    }
-}
-
-/// Writes which messages were given up, and that nothing past them was quoted.
-fn write_unquoted<E: TextOut>(
+/// Writes which messages were given up, if some were.
+fn write_given_up<E: TextOut>(
     names: &VenueNames,
     venue: VenueId,
-    given_up: Option<MessageRun>,
+    given_up: Option<MissingRange>,
     errors: &mut E,
 )
     ensures { SaysEach (writing_of E.TextOut)
-        (unquoted_texts names.now venue given_up) errors.old errors.new }
+        (unquoted_texts_if names.now venue given_up) errors.old errors.new }
 {
-    let Some(run) = given_up else {
-        return;
-    };
-    write_named_venue(names, venue, errors);
-    write_number(run.count, errors);
-    write_stderr(messages(run.count), errors);
-    write_number(run.number, errors);
-    write_stderr(", and is quoted no more\n", errors);
-}
-
-/// The text of a fault of a venue's book.
-fn book_fault_text(fault: BookFault) -> &'static str
-    ensures { result.now ≡ book_fault_text fault }
-{
-    match fault {
-        BookFault::TooManyOrders => " has more live orders than --orders\n",
-        BookFault::TooManyShares => " would show more than 2^63 shares at a price\n",
-        BookFault::TooManySymbols => " has too many symbols\n",
-        BookFault::DuplicateSymbol => " has a symbol twice\n",
-        BookFault::NoMemory => " has no memory for its orders\n",
+    if let Some(messages) = given_up {
+        write_unquoted(names, &VenueGap { venue, messages }, errors);
     }
 }
 
 /// Writes why a venue's normaliser has failed, if it has.
-fn write_book_fault<E: TextOut>(
+fn write_failed_book<E: TextOut>(
     names: &VenueNames,
     venue: VenueId,
     fault: Option<BookFault>,
     errors: &mut E,
 )
     ensures { SaysEach (writing_of E.TextOut)
-        (book_fault_texts names.now venue fault) errors.old errors.new }
+        (book_fault_texts_if names.now venue fault) errors.old errors.new }
 {
-    let Some(fault) = fault else {
-        return;
-    };
-    write_stderr("nbbo: venue ", errors);
-    write_venue_name(names, venue, errors);
-    write_stderr(book_fault_text(fault), errors);
+    if let Some(fault) = fault {
+        write_book_fault(names, venue, fault, errors);
+    }
 }
 
 /// Writes what is said of a venue.
@@ -127,8 +94,8 @@ fn write_end<E: TextOut>(names: &VenueNames, end: &ItchVenueEnd, errors: &mut E)
     ensures { SaysEach (writing_of E.TextOut)
         (itch_texts names.now end.now) errors.old errors.new }
 {
-    write_unquoted(names, end.venue, end.given_up, errors);
-    write_book_fault(names, end.venue, end.fault, errors);
+    write_given_up(names, end.venue, end.given_up, errors);
+    write_failed_book(names, end.venue, end.fault, errors);
 }
 
 /// Writes what was given up of each venue, and why its normaliser has failed, if it has.

@@ -5,11 +5,13 @@ ghost use Rattle.std.specs.Prelude.{◌≡◌};
 ghost use Rattle.text_out.specs.Members.{writing_of};
 ghost use Rattle.run_watches.specs.RunLines.{watched_run};
 ghost use Rattle.run_watches.specs.RunNews.{SaysOfRun, SaysRunEnd, SaysRunNews};
+ghost use Rattle.udp_listening.specs.ItchReports.{HasLooked, SaysGivenUpAt, SaysLook, reported_at};
 
 use crate::itch_statuses::ItchStatuses;
 use crate::output_state::OutputState;
 use crate::run_time::RunTime;
 use feed_types::{Anything, MAX_VENUES, VenueId};
+use itch_lines::VenueShare;
 use line_recordings::SkipRecords;
 use live_feed::{FeedName, RunView, Watcher};
 use run_watches::RunWatches;
@@ -33,7 +35,7 @@ pub struct RunMonitor<C, E> {
     /// Where the skips are handed over, if they are recorded.
     skips: SkipRecords,
     /// What the venues in ITCH show.
-    itch: ItchStatuses,
+    itch: ItchStatuses<VenueShare>,
     /// Whether a run that is ended from outside waits no longer for who reads its rows.
     leaves_rows: bool,
     has_stopped: bool,
@@ -50,7 +52,7 @@ impl<C, E> RunMonitor<C, E> {
         output: OutputState,
         leaves_rows: bool,
         skips: SkipRecords,
-        itch: ItchStatuses,
+        itch: ItchStatuses<VenueShare>,
     ) -> RunMonitor<C, E>
         ensures errors { result.errors ≡ errors }
         ensures watches { result.watches ≡ watches }
@@ -92,18 +94,22 @@ impl<C: Clock + Drop, E: TextOut + Drop> RunMonitor<C, E> {
         }
     }
 
-    /// Says which gap a venue in ITCH has given up since the last look, if one was.
+    /// Says which gap a venue in ITCH had given up at the last look, unless that was said before.
     fn say_given_up_at(&mut self, venue: VenueId, elapsed_ms: u64)
         ensures run { watched_run self.new.watches ≡ watched_run self.old.watches }
         ensures news { SaysRunNews (writing_of E.TextOut)
             (watched_run self.old.watches) self.old.errors self.new.errors }
+        ensures itch { self.new.itch ≡ record self.old.itch {
+          reported = reported_at venue self.old.itch.seen self.old.itch.reported;
+        } }
+        ensures says { SaysGivenUpAt (writing_of E.TextOut) elapsed_ms venue self.old self.new }
     {
-        let Some(run) = self.itch.take_given_up(venue) else {
+        let Some(missing) = self.itch.take_given_up(venue) else {
             return;
         };
         let errors = &mut self.errors;
         self.watches
-            .note_given_up(elapsed_ms, venue, run.number, run.count, errors);
+            .note_given_up(elapsed_ms, venue, missing, errors);
     }
 
     /// Looks at the venues in ITCH, and says which gaps they have given up since the last look.
@@ -111,6 +117,8 @@ impl<C: Clock + Drop, E: TextOut + Drop> RunMonitor<C, E> {
         ensures run { watched_run self.new.watches ≡ watched_run self.old.watches }
         ensures news { SaysRunNews (writing_of E.TextOut)
             (watched_run self.old.watches) self.old.errors self.new.errors }
+        ensures looked { HasLooked 16 self.old.itch self.new.itch }
+        ensures says { SaysLook (writing_of E.TextOut) elapsed_ms 16 self.old self.new }
     {
         self.itch.look();
         for place in 0..MAX_VENUES {

@@ -267,7 +267,7 @@ pub struct ListenLines<C> {
     /// What becomes of the lines.
     pub watches: LineWatches,
     /// What its venues in ITCH show.
-    pub itch: ItchStatuses,
+    pub itch: ItchStatuses<VenueShare>,
 }
 
 /// The lines of a run that are made so far.

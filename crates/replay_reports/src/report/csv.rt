@@ -11,6 +11,8 @@ use crate::report::values::{put_value, put_venue};
 use crate::report::venue_report::VenueReport;
 use run_settings::ValueStyle;
 use std::alloc::{AllocError, Global};
+use text_out::TextPart::Text;
+use text_out::put_parts;
 
 /// The rows that are written, and how.
 #[derive(Drop)]
@@ -36,14 +38,15 @@ impl CsvRows<'_> {
     }
 
     /// Appends the row of a figure of the line, whose name stands after that of its group.
-    fn put_row(&mut self, line: &str, group: &str, figure: &Figure) -> Result<(), AllocError> {
+    fn put_row<'a>(
+        &mut self,
+        line: &'a str,
+        group: &'a str,
+        figure: &Figure,
+    ) -> Result<(), AllocError> {
         self.put_venue_cell()?;
-        self.put(",")?;
-        self.put(line)?;
-        self.put(",")?;
-        self.put(group)?;
-        self.put(figure.name)?;
-        self.put(",")?;
+        put_parts(self.text, &[Text(","), Text(line), Text(",")])?;
+        put_parts(self.text, &[Text(group), Text(figure.name), Text(",")])?;
         put_value(self.alloc, self.text, self.style.times, b"", figure.value)?;
         self.put("\n")
     }

@@ -11,6 +11,8 @@ use crate::report::values::{put_json_value, put_json_venue};
 use crate::report::venue_report::{GapReport, VenueReport};
 use run_settings::ValueStyle;
 use std::alloc::{AllocError, Global};
+use text_out::TextPart::Text;
+use text_out::put_parts;
 
 /// Which objects of venues are in a list.
 #[derive(Clone, Copy)]
@@ -42,11 +44,16 @@ impl JsonObject<'_> {
     }
 
     /// Appends a name, after what stands before, and what stands after.
-    fn put_name(&mut self, before: &str, name: &str, after: &str) -> Result<(), AllocError> {
-        self.put(before)?;
-        self.put("\"")?;
-        self.put(name)?;
-        self.put(after)
+    fn put_name<'a>(
+        &mut self,
+        before: &'a str,
+        name: &'a str,
+        after: &'a str,
+    ) -> Result<(), AllocError> {
+        put_parts(
+            self.text,
+            &[Text(before), Text("\""), Text(name), Text(after)],
+        )
     }
 
     /// Appends figures as members.

@@ -1,5 +1,4 @@
 //! The report as tables: of each venue a row a line, and then what there is of its other figures.
-ghost use Rattle.std.specs.Prelude.{◌≤◌};
 
 use crate::report::figure::{Figure, FigureValue};
 use crate::report::figures::{
@@ -13,9 +12,8 @@ use crate::report::venue_report::VenueReport;
 use feed_types::LineId;
 use run_settings::ValueStyle;
 use std::alloc::{AllocError, Global};
-
-/// What a label or a value is filled with.
-const SPACES: &[u8] = b"                                ";
+use text_out::TextPart::{Spaces, Text};
+use text_out::{put_filled, put_parts, spaces};
 
 /// How many columns a label has.
 const LABEL: usize = 30;
@@ -29,13 +27,6 @@ struct Tables<'a> {
     alloc: Global,
     text: &'a mut Vec<u8>,
     style: &'a ValueStyle,
-}
-
-/// Returns the spaces that fill a text of this length up to as many columns.
-fn filling(columns: usize, length: usize) -> &'static [u8]
-    requires { columns ≤ 32 }
-{
-    &SPACES[..columns.saturating_sub(length)]
 }
 
 /// Returns whether a value is more than nothing or 0.
@@ -63,16 +54,13 @@ impl Tables<'_> {
 
     /// Appends a label on a new line.
     fn put_label(&mut self, label: &str) -> Result<(), AllocError> {
-        self.put("\n    ")?;
-        self.put(label)?;
-        self.text
-            .extend_from_slice(filling(LABEL, label.len().saturating_add(4)))
+        let filling = Spaces(LABEL.saturating_sub(label.len().saturating_add(4)));
+        put_parts(self.text, &[Text("\n    "), Text(label), filling])
     }
 
     /// Appends the head of a column at its end.
     fn put_head(&mut self, head: &str) -> Result<(), AllocError> {
-        self.text.extend_from_slice(filling(VALUE, head.len()))?;
-        self.put(head)
+        put_filled(self.text, VALUE, "", head.as_bytes())
     }
 
     /// Appends a value at the end of its column.
@@ -80,8 +68,7 @@ impl Tables<'_> {
         let mut cell = Vec::new(self.alloc);
         cell.extend_from_slice(b" ")?;
         put_value(self.alloc, &mut cell, self.style.times, b"-", value)?;
-        self.text.extend_from_slice(filling(VALUE, cell.len()))?;
-        self.text.extend_from_slice(cell.as_slice())
+        put_filled(self.text, VALUE, "", cell.as_slice())
     }
 
     /// Appends the value of a row in a column, where it has one.
@@ -107,13 +94,12 @@ impl Tables<'_> {
 
     /// Appends a title on a new line, and the heads of columns, if there are any.
     fn put_title(&mut self, title: &str, heads: &[&str]) -> Result<(), AllocError> {
-        self.put("\n  ")?;
-        self.put(title)?;
+        put_parts(self.text, &[Text("\n  "), Text(title)])?;
         if heads.is_empty() {
             return Ok(());
         }
-        self.text
-            .extend_from_slice(filling(LABEL, title.len().saturating_add(2)))?;
+        let filling = LABEL.saturating_sub(title.len().saturating_add(2));
+        self.text.extend_from_slice(spaces(filling))?;
         for head in heads {
             self.put_head(head)?;
         }

@@ -1,5 +1,5 @@
 //! Values and venues as texts.
-ghost use Rattle.std.specs.Prelude.{◌≡◌, ◌++◌, IfOk, OnOk, decimal};
+ghost use Rattle.std.specs.Prelude.{◌≡◌, ◌++◌, IfOk, OnOk};
 ghost use Rattle.run_settings.specs.VenueNames.{venue_text};
 ghost use Rattle.best_rows.specs.Times.{time_text};
 ghost use Rattle.best_rows.specs.VenueValues.{json_venue};
@@ -7,18 +7,9 @@ ghost use Rattle.replay_reports.specs.report.ReportTexts.{json_of_value, json_ti
 
 use crate::report::figure::FigureValue;
 use best_rows::put_time;
-use itoa::Buffer;
 use run_settings::{TimeStyle, VenueName, VenueNames};
 use std::alloc::{AllocError, Global};
-use text_out::LineBuffer;
-
-/// Appends a number in decimal.
-pub(crate) fn put_count(text: &mut Vec<u8>, number: u64) -> Result<(), AllocError>
-    ensures { OnOk result (text.new.items ≡ text.old.items ++ decimal number) }
-{
-    let mut buffer = Buffer::new();
-    text.extend_from_slice(buffer.format(number).as_bytes())
-}
+use text_out::{LineBuffer, put_digits};
 
 /// Appends a venue: its name where venues have names, else its number.
 pub(crate) fn put_venue(
@@ -29,7 +20,7 @@ pub(crate) fn put_venue(
     ensures { OnOk result (text.new.items ≡ text.old.items ++ venue_text names.now venue) }
 {
     match names {
-        VenueNames::Numbers => put_count(text, venue as u64),
+        VenueNames::Numbers => put_digits(text, venue as u64),
         VenueNames::Named(names) => text.extend_from_slice(VenueName::at(names, venue).text()),
     }
 }
@@ -43,7 +34,7 @@ pub(crate) fn put_json_venue(
     ensures { OnOk result (text.new.items ≡ text.old.items ++ json_venue names.now venue) }
 {
     match names {
-        VenueNames::Numbers => put_count(text, venue as u64),
+        VenueNames::Numbers => put_digits(text, venue as u64),
         VenueNames::Named(names) => {
             text.extend_from_slice(b"\"")?;
             text.extend_from_slice(VenueName::at(names, venue).text())?;
@@ -87,7 +78,7 @@ pub(crate) fn put_value(
 {
     match value {
         FigureValue::Nothing => text.extend_from_slice(none),
-        FigureValue::Count(number) => put_count(text, number),
+        FigureValue::Count(number) => put_digits(text, number),
         FigureValue::Time(time) => put_date(alloc, text, style, time),
     }
 }
@@ -102,7 +93,7 @@ fn put_json_time(
     ensures { OnOk result (text.new.items ≡ text.old.items ++ json_time_of style time) }
 {
     match style {
-        TimeStyle::Seconds => put_count(text, time),
+        TimeStyle::Seconds => put_digits(text, time),
         TimeStyle::Utc => {
             text.extend_from_slice(b"\"")?;
             put_date(alloc, text, TimeStyle::Utc, time)?;
@@ -122,7 +113,7 @@ pub(crate) fn put_json_value(
 {
     match value {
         FigureValue::Nothing => text.extend_from_slice(b"null"),
-        FigureValue::Count(number) => put_count(text, number),
+        FigureValue::Count(number) => put_digits(text, number),
         FigureValue::Time(time) => put_json_time(alloc, text, style, time),
     }
 }

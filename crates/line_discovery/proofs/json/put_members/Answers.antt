@@ -1,6 +1,7 @@
 use Rattle.std.proofs.Common.{ℕ, List, Option, Some, [], ◌∷◌, ◌++◌, ap, ◌∙◌, codes}
 use Rattle.line_discovery.specs.Looks.{look_member}
-use Rattle.line_discovery.specs.SurveyTexts.{cells_text, high_of, json_dates, low_of, other_key}
+use Rattle.text_out.specs.TextParts.{labelled_texts}
+use Rattle.line_discovery.specs.SurveyTexts.{high_of, json_dates, low_of, other_key}
 use Rattle.line_discovery.specs.Tables.{packets_at, rows_of}
 use Rattle.line_discovery.proofs.Putting.{put_last, put_two}
 use Rattle.line_discovery.proofs.json.put_members.Goals as goal
@@ -10,7 +11,7 @@ returns c =
     let row = c.args.row.now in
     let others = rows_of c.args.others.now in
     let old = c.args.text.now.items in
-    let mid = c.put_cells.new.text.items in
+    let mid = c.put_labelled.new.text.items in
     let dated = c.put_dates.new.text.items in
     let looked = c.put_look_member.new.text.items in
     let look = look_member c.args.rows.now row in
@@ -18,7 +19,7 @@ returns c =
     let dates = json_dates c.args.style row in
     let r = c.extend_from_slice.result in
     let Cells : Option ℕ → Option ℕ → ℕ → Option ℕ → Option ℕ → List ℕ =
-    λ a b n x y. cells_text 0 (codes "null") (
+    λ a b n x y. labelled_texts 0 (codes "null") (
     (codes "\",\"packets\":", Some row.packets)
     ∷ (codes ",\"messages\":", Some row.messages)
     ∷ (codes ",\"first\":", a)
@@ -35,7 +36,7 @@ returns c =
     let y = high_of row.times in
     let count = c.packets_of.ensures ∙ ap (packets_at others) c.other_key.ensures in
     put_two r old mid end (Cells a b n x y) (dates ++ (look ++ codes "}\n"))
-    (c.in_ok-put_cells.ensures
+    (c.in_ok-put_labelled.ensures.ok
     ∙ ap (λ (v : Option ℕ). old ++ Cells v c.high_of.result c.packets_of.result c.low_of-2.result
     c.high_of-2.result) c.low_of.ensures
     ∙ ap (λ (v : Option ℕ). old ++ Cells a v c.packets_of.result c.low_of-2.result

@@ -1,21 +1,9 @@
-use Rattle.std.proofs.Common.{ℕ, List, ◌++◌, ap, ◌∙◌, codes}
-use Rattle.line_discovery.proofs.Putting.{put_last, put_two}
+use Rattle.std.proofs.Common.{◌≡◌, ℕ, List, ◌++◌, codes, subst}
+use Rattle.std.specs.Prelude.{OnOk}
 use Rattle.line_discovery.proofs.standing.put_left_row.Goals as goal
 
 pub returns : goal.returns
 returns c =
-    let r = c.extend_from_slice-5.result in
-    let new = c.extend_from_slice-5.new.self.items in
-    let one = c.extend_from_slice.new.self.items in
-    let two = c.extend_from_slice-2.new.self.items in
-    let three = c.extend_from_slice-3.new.self.items in
-    let four = c.extend_from_slice-4.new.self.items in
-    put_two r c.args.text.now.items one new _ _ c.in_ok-extend_from_slice.ensures.items
-    (put_two r one two new _ _
-    (c.in_ok-extend_from_slice-2.ensures.items
-    ∙ ap (λ (t : List ℕ). one ++ t) c.session_name.ensures)
-    (put_two r two three new _ _ c.in_ok-extend_from_slice-3.ensures.items
-    (put_two r three four new _ _
-    (c.in_ok-extend_from_slice-4.ensures.items
-    ∙ ap (λ (t : List ℕ). three ++ t) c.as_bytes.ensures.value)
-    (put_last r four new (codes "\n") c.extend_from_slice-5.ensures.items))))
+    subst (λ (name : List ℕ). OnOk c.put_parts.result (c.put_parts.new.text.items
+    ≡ c.args.text.now.items ++ (codes "left out of the words: " ++ (name ++ (codes "  "
+    ++ (c.args.reason.now ++ codes "\n")))))) c.session_name.ensures c.put_parts.ensures.ok

@@ -1,5 +1,6 @@
 use Rattle.std.proofs.Common.{ℕ, List, Option, Some, [], ◌∷◌, ◌++◌, ap, ◌∙◌, codes}
-use Rattle.line_discovery.specs.SurveyTexts.{cells_text, high_of, low_of, other_key, place_cell, session_name, time_cell}
+use Rattle.text_out.specs.TextParts.{labelled_texts}
+use Rattle.line_discovery.specs.SurveyTexts.{high_of, low_of, other_key, place_cell, session_name, time_cell}
 use Rattle.line_discovery.specs.Tables.{packets_at, rows_of}
 use Rattle.line_discovery.proofs.Putting.{put_last, put_two}
 use Rattle.line_discovery.proofs.text.put_row.Goals as goal
@@ -14,11 +15,11 @@ returns c =
     let placed = c.put_place.new.text.items in
     let parted = c.extend_from_slice.new.self.items in
     let named = c.extend_from_slice-2.new.self.items in
-    let counted = c.put_cells.new.text.items in
+    let counted = c.put_labelled.new.text.items in
     let low = c.put_time_cell.new.text.items in
     let high = c.put_time_cell-2.new.text.items in
     let end = c.extend_from_slice-3.new.self.items in
-    let Cells : Option ℕ → Option ℕ → ℕ → List ℕ = λ a b n. cells_text 13 (codes "-") (
+    let Cells : Option ℕ → Option ℕ → ℕ → List ℕ = λ a b n. labelled_texts 13 (codes "-") (
     (codes " ", Some row.packets)
     ∷ (codes " ", Some row.messages)
     ∷ (codes " ", a)
@@ -43,7 +44,7 @@ returns c =
     (c.in_ok-extend_from_slice-2.ensures.items
     ∙ ap (λ (t : List ℕ). parted ++ t) c.session_name.ensures)
     (put_two r named counted end cells four
-    (c.in_ok-put_cells.ensures
+    (c.in_ok-put_labelled.ensures.ok
     ∙ ap (λ (v : Option ℕ). named ++ Cells v c.high_of.result c.packets_of.result)
     c.low_of.ensures
     ∙ ap (λ (v : Option ℕ). named ++ Cells a v c.packets_of.result) c.high_of.ensures

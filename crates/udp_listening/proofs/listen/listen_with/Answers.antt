@@ -102,7 +102,7 @@ returns g c =
       listened =
           listened_if_run settings sockets made.feed
           (map task_line made.lines.run.tasks.items) outcome made.ensures.setting
-          made.ensures.venues made.ensures'.tasks ran.ensures.run;
+          made.ensures.venues made.ensures.next made.ensures'.tasks ran.ensures.run;
       said = told;
       says =
           subst (λ (s : g.row.E.Denot). SaysOfRun telling (listened_run settings of_run) s told)

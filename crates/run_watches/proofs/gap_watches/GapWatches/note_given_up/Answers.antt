@@ -1,12 +1,14 @@
-use Rattle.std.proofs.Common.{◌∙◌, Contains, Some, ap, subst, sym}
+use Rattle.std.proofs.Common.{◌∙◌, List, ap, subst, sym, refl}
+use Rattle.std.specs.Prelude.{Option, MatchOption, slice_set, ◌≡◌, ◌/◌}
 use Rattle.std.proofs.Math.Seq.{map-set_same}
 use Rattle.text_out.specs.Devices.{Writing}
 use Rattle.text_out.specs.Members.{writing_of}
-use Rattle.run_watches.specs.RunLines.{watched_gaps, watched_venue}
-use Rattle.run_watches.specs.RunNews.{IsNewsOfGap, IsNewsOfGaps}
-use Rattle.run_watches.specs.declared.gap_news.GapChange.TheVariants.{GivenUp}
-use Rattle.run_watches.proofs.RunTelling.{said_if_any}
-use Rattle.run_watches.proofs.Telling.{gap_within, made_within, news_within}
+use Rattle.text_out.specs.StandardError.{SaysEach}
+use Rattle.run_watches.specs.Gaps.{given_up_in}
+use Rattle.run_watches.specs.GivenUps.{giving_up_at, noted_texts}
+use Rattle.run_watches.specs.RunLines.{watched_venue}
+use Rattle.run_watches.specs.declared.gap_watch.GapWatch.{GapWatch}
+use Rattle.run_watches.proofs.RunTelling.{watch_there}
 use Rattle.run_watches.proofs.gap_watches.GapWatches.note_given_up.Goals as goal
 
 pub returns-in-Some-clause-gaps : goal.returns-in-Some-clause-gaps
@@ -18,17 +20,28 @@ returns-in-Some-clause-gaps g c =
     (ap (λ gap. watched_venue gap) c.note_given_up.ensures.watch
     ∙ ap (λ gap. watched_venue gap) c.in-Some.ensures.item.1))
 
+pub returns-in-Some-clause-notes : goal.returns-in-Some-clause-notes
+returns-in-Some-clause-notes g c =
+    let old = c.args.self.now in
+    let items = old.gaps.items in
+    let place = c.args.venue in
+    let there = watch_there old place c.in-Some.gap.now
+    (sym c.gives_up.ensures ∙ c.if-not-gives_up.false) c.in-Some.ensures.item.3.0
+    c.in-Some.ensures.item.1 in
+    record {
+      rest = refl;
+      noted =
+          subst (λ (o : Option GapWatch). MatchOption o _ (λ watch. _
+          ≡ slice_set items place (given_up_in watch c.args.missing))) (sym there)
+          (ap (λ (x : GapWatch). slice_set items place x) c.note_given_up.ensures.watch);
+    }
+
 pub returns-in-Some-clause-says : goal.returns-in-Some-clause-says
 returns-in-Some-clause-says g c =
     let w : Writing g.row.E.Denot = writing_of g.E.TextOut in
-    let gaps = watched_gaps c.args.self.now in
-    let old = c.in-Some.gap.now in
-    let there = subst (λ gap. Contains gaps.venues (watched_venue gap))
-    (sym c.in-Some.ensures.item.1)
-    (made_within watched_venue c.args.self.now.gaps.items _ old
-    c.in-Some.ensures.item.3.0) in
-    news_within w c.args.names.now (IsNewsOfGap gaps.rule (watched_venue old)) (IsNewsOfGaps gaps)
-    c.args.errors.now c.note_given_up.new.errors (gap_within gaps (watched_venue old) there)
-    (said_if_any w c.args.names.now gaps.rule _ (watched_venue old) GivenUp (Some c.args.run)
-    c.args.errors.now c.note_given_up.new.errors (sym c.gives_up.ensures ∙ c.if-not-gives_up.false)
-    c.note_given_up.ensures.tells)
+    let there = watch_there c.args.self.now c.args.venue c.in-Some.gap.now
+    (sym c.gives_up.ensures ∙ c.if-not-gives_up.false) c.in-Some.ensures.item.3.0
+    c.in-Some.ensures.item.1 in
+    subst (λ (o : Option GapWatch). SaysEach w
+    (noted_texts c.args.names.now (c.args.elapsed_ms / 1000) o c.args.missing)
+    c.args.errors.now c.note_given_up.new.errors) (sym there) c.note_given_up.ensures.tells

@@ -10,5 +10,6 @@ invariant-loop g l =
         socket = l.self.socket;
         kept = l.self.kept;
         waiting = l.self.waiting;
+        answered = l.self.answered;
       };
     }

@@ -1,6 +1,0 @@
-use Rattle.std.proofs.Common.{◌≡◌, ◌++◌, flat_map, take}
-use Rattle.run_metrics.proofs.parts.put_texts.Given as goal
-
-abbrev pub invariant-loop-part : goal.invariant-loop-part
-invariant-loop-part l = l.text.items ≡ l.fn.text.items
-    ++ flat_map (λ part. part.now) (take l.part-index l.parts)
