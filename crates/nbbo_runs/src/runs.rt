@@ -114,9 +114,10 @@ fn run_over<R: CaptureIn, F: EndReport + Drop, W: TextOut + Drop, E: TextOut>(
     let mut missing = Missing::new(alloc, reports_gaps(settings, terminals));
     let config = config_of(settings);
     let timed = is_packet_input(&settings.input);
+    let (from, notes) = (&mut format, &mut missing);
     let printed = match settings.output {
         RunOutput::Lines => {
-            without_periods(print_lines(alloc, &config, &mut format, input, output, &mut missing))
+            without_periods(print_lines(alloc, &config, from, input, output, notes))
         }
         RunOutput::Bests(rows) => {
             let style = RowStyle {
@@ -124,41 +125,25 @@ fn run_over<R: CaptureIn, F: EndReport + Drop, W: TextOut + Drop, E: TextOut>(
                 timed,
             };
             let made = rows_before(alloc, style, output);
-            without_periods(print_rows(alloc, &config, made, &mut format, input, &mut missing))
+            without_periods(print_rows(alloc, &config, made, from, input, notes))
         }
         RunOutput::Periods(style) => {
-            print_periods(
-                alloc,
-                &config,
-                style,
-                &mut format,
-                input,
-                output,
-                &mut missing,
-            )
+            print_periods(alloc, &config, style, from, input, output, notes)
         }
         RunOutput::BestTimes(style) => {
             let made = best_times_before(alloc, &config, style, output);
-            without_periods(print_rows(alloc, &config, made, &mut format, input, &mut missing))
+            without_periods(print_rows(alloc, &config, made, from, input, notes))
         }
         RunOutput::Stats(rows) => {
             let form = StatsForm {
                 format: rows,
                 has_times: timed,
             };
-            without_periods(print_stats(
-                alloc,
-                &config,
-                form,
-                &mut format,
-                input,
-                output,
-                &mut missing,
-            ))
+            without_periods(print_stats(alloc, &config, form, from, input, output, notes))
         }
         RunOutput::Gaps(rows) => {
             let made = gaps_before(alloc, &config, rows, output);
-            without_periods(print_rows(alloc, &config, made, &mut format, input, &mut missing))
+            without_periods(print_rows(alloc, &config, made, from, input, notes))
         }
     };
     report_end(settings, &format, &missing, printed, errors)

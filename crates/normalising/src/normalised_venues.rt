@@ -225,9 +225,10 @@ impl<'a> NormalisedVenues<'a> {
             (skip_record venue number) self.old self.new writer.old writer.new result }
         ensures same { IsSameRun self.old self.new }
     {
-        let Ok(()) = self.given_up.reserve(1) else {
-            return Err(VenueStop::Book(BookFault::NoMemory));
-        };
+        match self.given_up.reserve(1) {
+            Ok(()) => {}
+            Err(_) => return Err(VenueStop::Book(BookFault::NoMemory)),
+        }
         self.current = venue;
         let it = &mut self.venues[venue.index()];
         let given_up = it.give_up(number, self.latest, &mut self.output, writer)?;

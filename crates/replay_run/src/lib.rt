@@ -32,7 +32,7 @@ ghost use Rattle.replay_run.specs.Moving.{ComesThrough};
 ghost use Rattle.replay_run.specs.Printed.{facts_of_run};
 
 use capture_records::RecordFormat;
-use event_sinks::{EventSink, MissingRange, Replayed};
+use event_sinks::{EventSink, Replayed, VenueGap};
 use feed_text::replay::{ReplayConfig, replay_events};
 use std::alloc::Global;
 use text_out::CaptureIn;
@@ -75,7 +75,7 @@ pub fn a_session_comes_through()
 /// Reads a capture of a format to its end, and gives a sink the events of its records
 /// ([`feed_text::replay::replay_events`]): those of a run of the machine over what is taken of the
 /// records, of which the headline holds. So is what the sink is told before a fault is answered.
-/// What each venue lacks at the end is appended to `lacks`.
+/// The gap of each venue at the end is appended to `lacks`.
 #[inline(always)]
 pub fn replay<R: CaptureIn, F: RecordFormat, K: EventSink>(
     alloc: Global,
@@ -83,7 +83,7 @@ pub fn replay<R: CaptureIn, F: RecordFormat, K: EventSink>(
     format: &mut F,
     reader: &mut R,
     sink: K,
-    lacks: &mut Vec<MissingRange>,
+    lacks: &mut Vec<VenueGap>,
 ) -> Replayed<K, F::Fault>
     requires can { CanReplay config.now }
     requires of_venues { F.venues format.old ≡ venues_in config.now }

@@ -7,8 +7,8 @@ use Rattle.capture_records.specs.Capture.{skip_record}
 use Rattle.normalising.proofs.Venues.{gives_next, gives_none, gives_stop, skip_gaps}
 use Rattle.normalising.proofs.normalised_venues.NormalisedVenues.give_up.Goals as goal
 
-pub returns-in_default-clause-takes : goal.returns-in_default-clause-takes
-returns-in_default-clause-takes g c = gives_none (Unit {0}) (writing_of g.W.TextOut)
+pub returns-in-Err-clause-takes : goal.returns-in-Err-clause-takes
+returns-in-Err-clause-takes g c = gives_none (Unit {0}) (writing_of g.W.TextOut)
     g.met.W.TextOut.adds_none (skip_record c.args.venue c.args.number) c.args.self.now _
     c.args.writer.now _ refl
 
@@ -40,8 +40,8 @@ returns-in-Some-clause-takes g c = gives_next
     (skip_gaps _ _ _ _ c.args.venue c.args.number _ c.push_reserved.ensures.items
     (rw c.in-Some.is at c.in_ok-given_up.ensures.gap))
 
-pub returns-clause-takes : goal.returns-clause-takes
-returns-clause-takes g c = gives_next
+pub returns-in_default-clause-takes : goal.returns-in_default-clause-takes
+returns-in_default-clause-takes g c = gives_next
     (writing_of g.W.TextOut)
     g.met.W.TextOut.adds_none (skip_record c.args.venue c.args.number) c.args.self.now _
     c.index_mut-it.result.now c.give_up.new.self c.args.writer.now c.give_up.new.writer
