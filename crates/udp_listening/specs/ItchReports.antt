@@ -3,6 +3,7 @@ use Rattle.std.specs.Prelude.{◌≡◌, ◌≢◌, ◌⊎◌, ℕ, zero, suc, �
 use Rattle.feed_types.specs.declared.missing_range.MissingRange.{MissingRange}
 use Rattle.text_out.specs.Devices.{Writing}
 use Rattle.text_out.specs.StandardError.{SaysEach}
+use Rattle.itch_lines.specs.Ends.{given_up_messages}
 use Rattle.itch_lines.specs.Shown.{MayShow}
 use Rattle.itch_lines.specs.declared.itch_status.ItchStatus.{ItchStatus}
 use Rattle.itch_lines.specs.declared.venue_end.GivenUp.{GivenUp}
@@ -14,11 +15,6 @@ use Rattle.udp_listening.specs.declared.itch_statuses.ItchStatuses.{ItchStatuses
 use Rattle.udp_listening.specs.declared.run_monitor.RunMonitor.{RunMonitor}
 
 -- ---- what is reported of a venue
-
--- the messages of a gap that was given up, if one was
-abbrev pub given_up_messages : Option GivenUp → Option MissingRange
-given_up_messages None = None
-given_up_messages (Some given_up) = Some given_up.messages
 
 -- What is reported of a venue of which this is seen: the messages of the gap that it gave up last,
 -- where another one than that was reported before, or none.
