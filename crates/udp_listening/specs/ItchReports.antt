@@ -76,7 +76,7 @@ SaysGivenUpBelow {C} {E} writing elapsed (suc venue) before after =
     (between : RunMonitor C E) × SaysGivenUpBelow writing elapsed venue before between
     × SaysGivenUpAt writing elapsed venue between after
 
--- The monitor sees what the lines of the venues in ITCH show, and then it says what is to be reported
+-- The monitor sees what the lines of the venues in ITCH show, and then says what is to be reported
 -- of the first ones.
 pub record SaysLook {C E : Type 0} (writing : Writing E) (elapsed venues : ℕ)
     (before after : RunMonitor C E) : Type 0 where
