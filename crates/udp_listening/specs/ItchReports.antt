@@ -38,8 +38,8 @@ reported_at venue seen reported =
 
 -- ---- one look
 
--- One look at the venues in ITCH, and the report of what is new then of the first ones: what is seen
--- is what their lines show, and of each of these the gap that it gave up last was reported.
+-- One look at the venues in ITCH, and the report of what is new then of the first `venues`: what is
+-- seen is what their lines show, and of each of these the gap that it gave up last was reported.
 pub record HasLooked (venues : ℕ) (before after : ItchStatuses VenueShare) : Type 0 where
   pub sources : after.sources ≡ before.sources
   pub seen : AreSeen (λ share. MayShow share.venue) before.sources.items after.seen
@@ -59,7 +59,7 @@ NotesMessages writing elapsed venue (Some missing) before after silent told =
     × SaysEach writing
     (noted_texts before.names (elapsed / 1000) (giving_up_at before.gaps venue) missing) silent told
 
--- What is to be reported of a venue by what the monitor has seen of it is noted and said.
+-- The monitor notes and says what is to be reported of a venue by what it has seen of it.
 pub record SaysGivenUpAt {C E : Type 0} (writing : Writing E) (elapsed venue : ℕ)
     (before after : RunMonitor C E) : Type 0 where
   pub messages : Option MissingRange
@@ -76,8 +76,8 @@ SaysGivenUpBelow {C} {E} writing elapsed (suc venue) before after =
     (between : RunMonitor C E) × SaysGivenUpBelow writing elapsed venue before between
     × SaysGivenUpAt writing elapsed venue between after
 
--- The monitor sees what the lines of the venues in ITCH show, and then what is to be reported of the
--- first venues is said.
+-- The monitor sees what the lines of the venues in ITCH show, and then says what is to be reported
+-- of the first ones.
 pub record SaysLook {C E : Type 0} (writing : Writing E) (elapsed venues : ℕ)
     (before after : RunMonitor C E) : Type 0 where
   pub seen : List (Option ItchStatus)
