@@ -4,13 +4,14 @@ use Rattle.std.specs.Prelude.{slice_set}
 use Rattle.std.proofs.lemmas.Option.{slice_get_read}
 use Rattle.std.proofs.lemmas.Result.{err_from_is_err_and}
 use Rattle.capture_records.specs.Capture.{skip_record}
+use Rattle.itch_book.specs.declared.fault.BookFault.TheVariants.{NoMemory}
 use Rattle.normalising.proofs.Venues.{gives_next, gives_none, gives_stop, skip_gaps}
 use Rattle.normalising.proofs.normalised_venues.NormalisedVenues.give_up.Goals as goal
 
 pub returns-in-Err-clause-takes : goal.returns-in-Err-clause-takes
 returns-in-Err-clause-takes g c = gives_none (Unit {0}) (writing_of g.W.TextOut)
-    g.met.W.TextOut.adds_none (skip_record c.args.venue c.args.number) c.args.self.now _
-    c.args.writer.now _ refl
+    g.met.W.TextOut.adds_none (skip_record c.args.venue c.args.number) c.args.self.now
+    c.args.self.now c.args.writer.now NoMemory refl
 
 pub returns-in_err-given_up-clause-takes : goal.returns-in_err-given_up-clause-takes
 returns-in_err-given_up-clause-takes g c =
