@@ -3,6 +3,8 @@ pub mod Cells
 pub mod Sections
 -- what a venue shows
 pub mod Shown
+-- what a venue has come to
+pub mod Ends
 -- what a line brings
 pub mod Lines
 pub mod FeedLines

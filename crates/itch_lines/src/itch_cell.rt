@@ -9,12 +9,13 @@ ghost use Rattle.venue_normaliser.specs.Outputs.{IsPutOut};
 ghost use Rattle.venue_normaliser.specs.States.{FitsPackets};
 ghost use Rattle.item_packets.specs.Packed.{bytes_of_each};
 ghost use Rattle.itch_lines.specs.Cells.{HasBeenGiven, given_up_then};
+ghost use Rattle.itch_lines.specs.Ends.{given_up_messages};
 ghost use Rattle.itch_lines.specs.Sections.{BringsEnd, BringsSkip, MakesOfDatagram, gap_asked};
 ghost use Rattle.itch_lines.specs.Shown.{AwaitsReply, ShowsNormaliser, gap_at_end};
 
 use crate::itch_status::ItchStatus;
 use crate::itch_venue::ItchVenue;
-use crate::venue_end::{GivenUp, ItchVenueEnd};
+use crate::venue_end::{GivenUp, ItchVenueEnd, given_up_messages};
 use feed_types::{LineId, MissingRange, SessionName, VenueId};
 use itch_book::BookFault;
 use line_arbiter::Pacer;
@@ -336,13 +337,16 @@ impl ItchCell {
     }
 
     /// Returns what the venue has come to.
-    pub(crate) fn end(&self) -> ItchVenueEnd {
+    pub(crate) fn end(&self) -> ItchVenueEnd
+        ensures venue { result.venue ≡ self.now.normaliser.lines.venue }
+        ensures given_up { result.given_up ≡ given_up_messages self.now.given_up }
+        ensures missing { (packets : List Input) → FitsPackets self.now.normaliser packets
+            → result.missing ≡ gap_asked self.now.normaliser packets }
+        ensures failed { is_some result.fault ≡ self.now.failed }
+    {
         ItchVenueEnd {
             venue: self.venue(),
-            given_up: match self.given_up {
-                Some(given_up) => Some(given_up.messages),
-                None => None,
-            },
+            given_up: given_up_messages(self.given_up),
             missing: self.gap_asked(),
             fault: self.fault,
         }

@@ -35,5 +35,5 @@ pub use itch_rules::ItchRules;
 pub use itch_status::ItchStatus;
 pub use source_end::SourceEnd;
 pub use status_source::StatusSource;
-pub use venue_end::{GivenUp, ItchVenueEnd};
+pub use venue_end::{GivenUp, ItchVenueEnd, given_up_messages};
 pub use venue_share::VenueShare;

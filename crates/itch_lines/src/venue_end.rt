@@ -1,4 +1,6 @@
 //! What a venue in ITCH has come to.
+ghost use Rattle.std.specs.Prelude.{◌≡◌};
+ghost use Rattle.itch_lines.specs.Ends.{given_up_messages};
 
 use feed_types::{MissingRange, VenueId};
 use itch_book::BookFault;
@@ -11,6 +13,16 @@ pub struct GivenUp {
     pub ordinal: u64,
     /// The messages that are missing.
     pub messages: MissingRange,
+}
+
+/// Returns the messages of a gap that was given up, if one was.
+pub fn given_up_messages(given_up: Option<GivenUp>) -> Option<MissingRange>
+    ensures { result ≡ given_up_messages given_up }
+{
+    match given_up {
+        Some(given_up) => Some(given_up.messages),
+        None => None,
+    }
 }
 
 /// What a venue in ITCH has come to.

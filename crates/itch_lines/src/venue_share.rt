@@ -2,6 +2,7 @@
 ghost use Rattle.std.specs.Prelude.{◌≡◌, [], None, Ok, IfOk, IfSome, OnErr, OnOk};
 ghost use Rattle.venue_normaliser.specs.States.{FitsPackets};
 ghost use Rattle.item_packets.specs.Packed.{bytes_of_each};
+ghost use Rattle.itch_lines.specs.Ends.{MayEndAs};
 ghost use Rattle.itch_lines.specs.Lines.{IsPossibleSkip, IsPossibleTaking};
 ghost use Rattle.itch_lines.specs.Sections.{BringsEnd};
 ghost use Rattle.itch_lines.specs.Shown.{MayShow};
@@ -109,6 +110,18 @@ fn status_at(cell: &ItchCell, venue: VenueId) -> Option<ItchStatus>
     }
     cell.show_lock_invariant();
     cell.status()
+}
+
+/// Returns what a venue has come to, by its cell; None where the cell is another venue's, which no
+/// run meets.
+fn end_at(cell: &ItchCell, venue: VenueId) -> Option<ItchVenueEnd>
+    ensures { IfSome result (MayEndAs venue) }
+{
+    if cell.venue() != venue {
+        return None;
+    }
+    cell.show_lock_invariant();
+    Some(cell.end())
 }
 
 impl VenueShare {
@@ -252,9 +265,11 @@ impl VenueShare {
     }
 
     /// Returns what the venue has come to.
-    pub fn end(&self) -> Option<ItchVenueEnd> {
+    pub fn end(&self) -> Option<ItchVenueEnd>
+        ensures { IfSome result (MayEndAs self.now.venue) }
+    {
         match self.lock() {
-            Some(guard) => Some(guard.end()),
+            Some(guard) => end_at(&guard, self.venue),
             None => None,
         }
     }

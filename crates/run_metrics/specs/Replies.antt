@@ -77,8 +77,8 @@ response_head reply count =
     concat
     (codes "HTTP/1.1 " ∷ status_text reply
     ∷ codes "Content-Type: text/plain; version=0.0.4; charset=utf-8\r\n" ∷ [])
-    ++ (concat (codes "Content-Length: " ∷ decimal count ∷ [])
-    ++ codes "\r\nConnection: close\r\n\r\n")
+    ++ concat
+    (codes "Content-Length: " ∷ decimal count ∷ codes "\r\nConnection: close\r\n\r\n" ∷ [])
 
 -- whether the content is in the answer, or its length alone
 abbrev pub has_content : Reply → Bool

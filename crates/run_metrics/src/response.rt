@@ -51,8 +51,8 @@ fn put_response_head(text: &mut Vec<u8>, reply: Reply, length: u64) -> Result<()
     let content_type = "Content-Type: text/plain; version=0.0.4; charset=utf-8\r\n";
     let status = Text(reply.status());
     put_parts(text, &[Text("HTTP/1.1 "), status, Text(content_type)])?;
-    put_parts(text, &[Text("Content-Length: "), Number(length)])?;
-    text.extend_from_slice(b"\r\nConnection: close\r\n\r\n")
+    let close = Text("\r\nConnection: close\r\n\r\n");
+    put_parts(text, &[Text("Content-Length: "), Number(length), close])
 }
 
 /// Returns the whole answer of a reply, of a run that has come to these figures.

@@ -1,4 +1,5 @@
 pub mod Binding
+pub mod Ended
 pub mod Ends
 pub mod Following
 pub mod Gathering

@@ -24,7 +24,8 @@ reported_more : (place venue : ℕ) (same : Bool) (seen : List (Option ItchStatu
 reported_more place venue true seen before old test within first here below =
     let at : venue ≡ place = grind (arith, nat_tests) in
     ap (λ (v : ℕ). at_venue (reported_at place seen old) v) at
-    ∙ get_or-set_same old place (reported_then (at_venue seen place) (at_venue old place)) None within
+    ∙ get_or-set_same old place (reported_then (at_venue seen place) (at_venue old place)) None
+    within
     ∙ ap (λ (o : Option GivenUp). reported_then (at_venue seen place) o) here
     ∙ ap (λ (v : ℕ). reported_then (at_venue seen v) (at_venue before v)) (sym at)
 reported_more place venue false seen before old test within first here below =

@@ -1,12 +1,17 @@
 -- What is reported of the venues in ITCH.
-use Rattle.std.specs.Prelude.{ℕ, List, [], ◌++◌, Option, Some, None, flat_map}
+use Rattle.std.specs.Prelude.{ℕ, All, List, [], ◌++◌, Option, Some, None, flat_map}
 use Rattle.feed_types.specs.declared.missing_range.MissingRange.{MissingRange}
 use Rattle.run_notes.specs.ItchNotes.{book_fault_texts, unquoted_texts}
 use Rattle.run_settings.specs.declared.venue_names.VenueNames.{VenueNames}
 use Rattle.event_sinks.specs.VenueGaps.{venue_gap}
 use Rattle.event_sinks.specs.declared.venue_gap.VenueGap.{VenueGap}
 use Rattle.itch_book.specs.declared.fault.BookFault.{BookFault}
+use Rattle.itch_lines.specs.Ends.{MayEndAs}
 use Rattle.itch_lines.specs.declared.venue_end.ItchVenueEnd.{ItchVenueEnd}
+
+-- these are what venues in ITCH may have come to
+abbrev pub AreItchEnds : List ItchVenueEnd → Type 0
+AreItchEnds ends = All (λ e. MayEndAs e.venue e) ends
 
 -- what these venues lack, each its gap that stands, if one does
 abbrev pub itch_lacks : List ItchVenueEnd → List VenueGap

@@ -3,6 +3,7 @@ use Rattle.std.specs.Prelude.{◌≡◌, ◌≢◌, ◌⊎◌, ℕ, zero, suc, �
 use Rattle.feed_types.specs.declared.missing_range.MissingRange.{MissingRange}
 use Rattle.text_out.specs.Devices.{Writing}
 use Rattle.text_out.specs.StandardError.{SaysEach}
+use Rattle.itch_lines.specs.Ends.{given_up_messages}
 use Rattle.itch_lines.specs.Shown.{MayShow}
 use Rattle.itch_lines.specs.declared.itch_status.ItchStatus.{ItchStatus}
 use Rattle.itch_lines.specs.declared.venue_end.GivenUp.{GivenUp}
@@ -14,11 +15,6 @@ use Rattle.udp_listening.specs.declared.itch_statuses.ItchStatuses.{ItchStatuses
 use Rattle.udp_listening.specs.declared.run_monitor.RunMonitor.{RunMonitor}
 
 -- ---- what is reported of a venue
-
--- the messages of a gap that was given up, if one was
-abbrev pub given_up_messages : Option GivenUp → Option MissingRange
-given_up_messages None = None
-given_up_messages (Some given_up) = Some given_up.messages
 
 -- What is reported of a venue of which this is seen: the messages of the gap that it gave up last,
 -- where another one than that was reported before, or none.
@@ -42,8 +38,8 @@ reported_at venue seen reported =
 
 -- ---- one look
 
--- One look at the venues in ITCH, and the report of what is new then of the first ones: what is seen
--- is what their lines show, and of each of these the gap that it gave up last was reported.
+-- One look at the venues in ITCH, and the report of what is new then of the first `venues`: what is
+-- seen is what their lines show, and of each of these the gap that it gave up last was reported.
 pub record HasLooked (venues : ℕ) (before after : ItchStatuses VenueShare) : Type 0 where
   pub sources : after.sources ≡ before.sources
   pub seen : AreSeen (λ share. MayShow share.venue) before.sources.items after.seen
@@ -63,7 +59,7 @@ NotesMessages writing elapsed venue (Some missing) before after silent told =
     × SaysEach writing
     (noted_texts before.names (elapsed / 1000) (giving_up_at before.gaps venue) missing) silent told
 
--- What is to be reported of a venue by what the monitor has seen of it is noted and said.
+-- The monitor notes and says what is to be reported of a venue by what it has seen of it.
 pub record SaysGivenUpAt {C E : Type 0} (writing : Writing E) (elapsed venue : ℕ)
     (before after : RunMonitor C E) : Type 0 where
   pub messages : Option MissingRange
@@ -80,8 +76,8 @@ SaysGivenUpBelow {C} {E} writing elapsed (suc venue) before after =
     (between : RunMonitor C E) × SaysGivenUpBelow writing elapsed venue before between
     × SaysGivenUpAt writing elapsed venue between after
 
--- The monitor sees what the lines of the venues in ITCH show, and then what is to be reported of the
--- first venues is said.
+-- The monitor sees what the lines of the venues in ITCH show, and then says what is to be reported
+-- of the first ones.
 pub record SaysLook {C E : Type 0} (writing : Writing E) (elapsed venues : ℕ)
     (before after : RunMonitor C E) : Type 0 where
   pub seen : List (Option ItchStatus)

@@ -16,7 +16,7 @@ use Rattle.run_notes.specs.AbsentSymbols.{absent_among, unchanged_among}
 use Rattle.run_settings.specs.FurtherOptions.{has_further_options}
 use Rattle.run_settings.specs.declared.listen_settings.ListenSettings.{ListenSettings}
 use Rattle.itch_lines.specs.FeedLines.{source_of}
-use Rattle.udp_listening.specs.ItchEnds.{itch_lacks}
+use Rattle.udp_listening.specs.ItchEnds.{AreItchEnds, itch_lacks}
 use Rattle.udp_listening.specs.Lines.{LineState, run_lines, venue_of_line}
 use Rattle.udp_listening.specs.NamedNext.{AreNextOf}
 use Rattle.udp_listening.specs.Settings.{feed_setting}
@@ -122,6 +122,7 @@ pub record IsReportOfFeed (settings : ListenSettings) (whole : FeedReport LineSt
   pub unchanged : told.unchanged
       ≡ unchanged_among (settled_notices whole.settlement) (noted_symbols settings)
   pub no_itch : settings.itch.venues.items ≡ [] → told.itch.items ≡ []
+  pub itch : AreItchEnds told.itch.items
   pub names : told.names ≡ settings.venues
   pub settlement : told.settlement ≡ whole.settlement
 

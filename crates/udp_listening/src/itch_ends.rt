@@ -3,7 +3,7 @@ ghost use Rattle.text_out.specs.Members.{writing_of};
 ghost use Rattle.std.specs.Prelude.{◌≡◌, ◌++◌, [], IfOk, OnOk, flat_map};
 ghost use Rattle.event_sinks.specs.VenueGaps.{venue_gap};
 ghost use Rattle.text_out.specs.StandardError.{SaysEach};
-ghost use Rattle.udp_listening.specs.ItchEnds.{book_fault_texts_if, unquoted_texts_if, itch_lacks, itch_texts};
+ghost use Rattle.udp_listening.specs.ItchEnds.{AreItchEnds, book_fault_texts_if, unquoted_texts_if, itch_lacks, itch_texts};
 
 use event_sinks::VenueGap;
 use feed_types::{MissingRange, VenueId};
@@ -14,6 +14,17 @@ use run_settings::{ListenSettings, VenueNames};
 use std::alloc::{AllocError, Global};
 use text_out::TextOut;
 
+/// Appends what the venue has come to whose lines share this.
+#[tactic(auto, using(crate::proofs::Ended::one_more_end))]
+fn append_end(ends: &mut Vec<ItchVenueEnd>, share: &VenueShare) -> Result<(), AllocError>
+    ensures { OnOk result (AreItchEnds ends.old.items → AreItchEnds ends.new.items) }
+{
+    if let Some(end) = share.end() {
+        ends.push(end)?;
+    }
+    Ok(())
+}
+
 /// Returns what the venues in ITCH have come to, by what their lines share; none where the settings
 /// have no such venue.
 pub(crate) fn itch_ends(
@@ -21,16 +32,15 @@ pub(crate) fn itch_ends(
     settings: &ListenSettings,
     shares: &[VenueShare],
 ) -> Result<Vec<ItchVenueEnd>, AllocError>
-    ensures { settings.now.itch.venues.items ≡ [] → IfOk result (λ ends. ends.items ≡ []) }
+    ensures none { settings.now.itch.venues.items ≡ [] → IfOk result (λ ends. ends.items ≡ []) }
+    ensures ends { IfOk result (λ ends. AreItchEnds ends.items) }
 {
     let mut ends = Vec::new(alloc);
     if settings.itch.venues.is_empty() {
         return Ok(ends);
     }
     for share in shares {
-        if let Some(end) = share.end() {
-            ends.push(end)?;
-        }
+        append_end(&mut ends, share)?;
     }
     Ok(ends)
 }

@@ -1,10 +1,10 @@
 //! What the venues of a run in ITCH show, for the thread beside it.
 ghost use Rattle.std.specs.Prelude.{◌≡◌, ◌<◌, IfOk, IfSome, is_some, map};
-ghost use Rattle.udp_listening.specs.ItchReports.{IsReportedOf, given_up_messages, reported_at};
+ghost use Rattle.udp_listening.specs.ItchReports.{IsReportedOf, reported_at};
 ghost use Rattle.udp_listening.specs.ItchShown.{AreSeen, HasSeenNothing, at_venue, noted_then, shown_beside};
 
 use feed_types::{MAX_VENUES, MissingRange, VenueId};
-use itch_lines::{GivenUp, ItchStatus, StatusSource, VenueShare};
+use itch_lines::{GivenUp, ItchStatus, StatusSource, VenueShare, given_up_messages};
 use std::alloc::{AllocError, Global};
 use venue_lines::VenueStatus;
 
@@ -30,16 +30,6 @@ fn shown_beside(itch: Option<ItchStatus>, feed: Option<VenueStatus>) -> Option<V
     match (itch, feed) {
         (Some(itch), Some(feed)) => Some(itch.over(&feed)),
         (_, feed) => feed,
-    }
-}
-
-/// Returns the messages of a gap that was given up, if one was.
-fn given_up_messages(given_up: Option<GivenUp>) -> Option<MissingRange>
-    ensures { result ≡ given_up_messages given_up }
-{
-    match given_up {
-        Some(given_up) => Some(given_up.messages),
-        None => None,
     }
 }
 
@@ -79,10 +69,7 @@ fn shared(alloc: Global, shares: &[VenueShare]) -> Result<Vec<VenueShare>, Alloc
 
 impl ItchStatuses<VenueShare> {
     /// Returns those of the venues whose lines share these, at which nobody has looked.
-    pub fn of(
-        alloc: Global,
-        shares: &[VenueShare],
-    ) -> Result<ItchStatuses<VenueShare>, AllocError>
+    pub fn of(alloc: Global, shares: &[VenueShare]) -> Result<ItchStatuses<VenueShare>, AllocError>
         ensures venues { IfOk result (λ statuses. map (λ share. share.venue) statuses.sources.items
             ≡ map (λ share. share.venue) shares.now) }
         ensures none { IfOk result HasSeenNothing }

@@ -25,10 +25,7 @@ fn append_lack(
 }
 
 /// Returns what the venues of the settled feed lack, in order, of each that lacks anything.
-pub fn settled_lacks(
-    alloc: Global,
-    settlement: &Settlement,
-) -> Result<Vec<VenueGap>, AllocError>
+pub fn settled_lacks(alloc: Global, settlement: &Settlement) -> Result<Vec<VenueGap>, AllocError>
     ensures { IfOk result (λ lacking. lacking.items ≡ settled_lacks settlement.now) }
 {
     let mut lacking = Vec::new(alloc);

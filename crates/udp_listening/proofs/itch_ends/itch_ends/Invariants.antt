@@ -1,0 +1,5 @@
+use Rattle.udp_listening.specs.ItchEnds.{AreItchEnds}
+use Rattle.udp_listening.proofs.itch_ends.itch_ends.Given as goal
+
+abbrev pub invariant-loop-share : goal.invariant-loop-share
+invariant-loop-share l = AreItchEnds l.ends.items
