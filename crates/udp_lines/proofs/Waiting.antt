@@ -1,5 +1,5 @@
 -- What a wait changes of a line.
-use Rattle.std.proofs.Common.{◌≡◌, ◌∙◌, ℕ, List, Option, Some, None, ap, inl, inr, subst, sym}
+use Rattle.std.proofs.Common.{◌≡◌, ◌∙◌, ℕ, Option, Some, None, ap, inl, inr, subst, sym}
 use Rattle.std.specs.Prelude.{◌⊎◌, Bool, true, false, not, MatchBool, if◌then◌else◌}
 use Rattle.udp_lines.specs.UdpLines.{HasAwaited, HasEndedInTime, HasReadOn, MayEndInTime, UdpLineState, looks_for_reply, read_on_by}
 

@@ -1,7 +1,6 @@
 -- What is heard of what a socket brings.
 use Rattle.std.specs.Prelude.{ℕ, ◌≤◌, List, length, take, Option}
 use Rattle.std.specs.declared.net.socket_addr.SocketAddr.{SocketAddr}
-use Rattle.venue_lines.specs.declared.source.SourceFault.{SourceFault}
 use Rattle.run_settings.specs.Senders.{IsTakenFrom}
 use Rattle.run_settings.specs.declared.sender.AllowedSender.{AllowedSender}
 use Rattle.udp_lines.specs.declared.line_socket.Received.{Received}
