@@ -5,7 +5,7 @@ use Rattle.std.proofs.lemmas.Option.{slice_get_within}
 use Rattle.feed_types.specs.ListLaws.{get_within}
 use Rattle.normalising.specs.Keeping.{FollowsRun, ReportVenues, ReportsVenue}
 use Rattle.normalising.specs.Normalised.{NormalisedPoint}
-use Rattle.normalising.specs.Reported.{AreReported, IsVenueReport}
+use Rattle.normalising.specs.Reported.{AreReported, IsReportOfVenue}
 use Rattle.normalising.specs.declared.normalised_feed.NormalisedFeed.{NormalisedFeed}
 use Rattle.normalising.specs.declared.normalised_venue.NormalisedVenue.{NormalisedVenue}
 use Rattle.normalising.specs.declared.normalised_venues.NormalisedVenues.{NormalisedVenues}
@@ -46,6 +46,6 @@ are_reported feed run at reports same r f = record {
       let within = slice_get_within at.venues place h a in
       let n = f.venues.count in
       let v = get_within run.venues.items place (omega (arith, within, n)) in
-      subst (λ (of : NormalisedFeed). IsVenueReport of place h report) same
+      subst (λ (of : NormalisedFeed). IsReportOfVenue of place h report) same
       (r.each place v.0 report v.1 b run.settings place h (f.venues.each place v.0 h v.1 a));
 }

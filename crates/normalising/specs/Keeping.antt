@@ -12,7 +12,7 @@ use Rattle.venue_normaliser.specs.Outputs.{IsPutOutFrom}
 use Rattle.venue_normaliser.specs.States.{FitsOpened, NormaliserState}
 use Rattle.item_packets.specs.Openings.{BeginsAt, IsOpening}
 use Rattle.normalising.specs.Normalised.{GoesOnWithin, IsNewPoint, IsNewVenue, IsNormalisedNext, NormalisedHistory, NormalisedPoint, NormalisesAll, NormalisesAt, inputs_of, quoted_keys, time_after}
-use Rattle.normalising.specs.Reported.{IsVenueReport}
+use Rattle.normalising.specs.Reported.{IsReportOfVenue}
 use Rattle.normalising.specs.Texts.{begun_text}
 use Rattle.normalising.specs.Writes.{PutsText}
 use Rattle.event_sinks.specs.declared.replay_stop.ReplayStop.TheVariants.{SinkFailed}
@@ -102,7 +102,7 @@ gap_noted (Some gap) = gap ∷ []
 abbrev pub ReportsVenue : NormalisedVenue → VenueReport → Type 0
 ReportsVenue v report =
     (feed : NormalisedFeed) (place : ℕ) (h : NormalisedHistory) → FollowsVenue feed place v h
-    → IsVenueReport feed place h report
+    → IsReportOfVenue feed place h report
 
 -- each venue has its report
 pub record ReportVenues (vs : List NormalisedVenue) (reports : List VenueReport) : Type 0 where

@@ -26,7 +26,7 @@ standing_gap name window sent opening packets =
 
 -- What is reported of a venue with this history: the gap that stands, and the messages that
 -- changed no order, or took more than there was, unless a gap was given up. The counts aren't said.
-pub record IsVenueReport (feed : NormalisedFeed) (place : ℕ) (h : NormalisedHistory)
+pub record IsReportOfVenue (feed : NormalisedFeed) (place : ℕ) (h : NormalisedHistory)
     (report : VenueReport) : Type 0 where
   pub venue : report.venue ≡ place
   pub sent : ℕ
@@ -44,4 +44,4 @@ pub record AreReported (feed : NormalisedFeed) (gaps : List VenueGap) (reports :
   pub count : length reports ≡ length at.venues
   pub each : (place : ℕ) (h : NormalisedHistory) (report : VenueReport)
       → slice_get at.venues place ≡ Some h → slice_get reports place ≡ Some report
-      → IsVenueReport feed place h report
+      → IsReportOfVenue feed place h report
