@@ -5,7 +5,7 @@ ghost use Rattle.std.specs.Prelude.{◌≡◌, not, false, None};
 ghost use Rattle.nbbo_book.specs.Changes.{is_same_best};
 ghost use Rattle.nbbo_book.specs.Ranks.{HasPlaces, best_of_ranks};
 ghost use Rattle.nbbo_book.specs.VenueSides.{sides_in, sides_across, book_side_of};
-ghost use Rattle.nbbo_book.specs.BookSides.{CanRank, ArePast, IsRanked, side_quoted, side_rechecked};
+ghost use Rattle.nbbo_book.specs.BookSides.{ArePast, IsRanked, side_quoted, side_rechecked};
 
 use crate::ranks::{Cause, Order, RankPlaces, Ranks};
 use crate::side_quote::{is_same, rank_of};

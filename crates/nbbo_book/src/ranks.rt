@@ -1,9 +1,7 @@
 //! The ranks of one side of a symbol.
 
-ghost use Rattle.std.specs.Prelude.{◌≡◌, ℕ, ◌+◌, ◌*◌, ◌^◌, ◌<◌, ◌≤◌, [], true, false, not, length, slice_index_or, slice_set, insert, remove, IfSome, None, Some};
+ghost use Rattle.std.specs.Prelude.{◌≡◌, ℕ, ◌+◌, ◌*◌, ◌^◌, ◌<◌, ◌≤◌, [], false, not, length, slice_index_or, insert, remove, IfSome, None, Some};
 ghost use Rattle.nbbo_book.specs.Changes.{is_same_best};
-ghost use Rattle.nbbo_book.specs.Nationals.{is_better as is_better_side, beats as beats_side};
-ghost use Rattle.nbbo_book.specs.VenueSides.{sides_in, age_at};
 ghost use Rattle.nbbo_book.specs.Ranks.{is_ahead as is_ahead_side, ages_in, AreNoted, CanMove, CanUpdate, HasNone, HasPlaces, IsPlace, without, with_rank, placed, best_of_ranks};
 
 use crate::venue_sides::VenueSides;
@@ -87,9 +85,10 @@ fn is_ahead(order: &Order<'_>, x: &Best, y: &Best) -> bool
     }
 }
 
-/// Puts `x` in the place of the side at `from`, and moves it past its neighbours to its rank: first
-/// before those that it is ahead of, or else behind those that it isn't ahead of. Each of them
-/// moves by one place. Returns its place. `count` is the number of ranks.
+/// Puts `x` in the place of the side at `from`, and moves it past its neighbours to its rank: before
+/// those that it is ahead of, or else behind those that it isn't ahead of. Each of them moves by
+/// one place. Returns its place. `count` is the number of ranks.
+// It returns from two places: where they join, what it writes took 13 more instructions.
 #[inline(always)]
 fn move_to_rank(
     order: &Order<'_>,
@@ -106,17 +105,20 @@ fn move_to_rank(
     ensures noted { AreNoted places.new ranks.new }
 {
     let mut at = from;
-    while at > 0 && is_ahead(order, x, &ranks[at - 1]) {
+    'up: while at > 0 && is_ahead(order, x, &ranks[at - 1]) {
         places[ranks[at - 1].venue.index()] = at as u8;
         ranks[at] = ranks[at - 1];
         at -= 1;
     }
-    if at == from {
-        while at + 1 < count && !is_ahead(order, x, &ranks[at + 1]) {
-            places[ranks[at + 1].venue.index()] = at as u8;
-            ranks[at] = ranks[at + 1];
-            at += 1;
-        }
+    if at < from {
+        places[x.venue.index()] = at as u8;
+        ranks[at] = *x;
+        return at;
+    }
+    'down: while at + 1 < count && !is_ahead(order, x, &ranks[at + 1]) {
+        places[ranks[at + 1].venue.index()] = at as u8;
+        ranks[at] = ranks[at + 1];
+        at += 1;
     }
     places[x.venue.index()] = at as u8;
     ranks[at] = *x;

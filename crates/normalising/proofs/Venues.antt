@@ -193,10 +193,10 @@ module _ {W : Type 0} (writing : Writing W) (adds_none : (s : W) → writing.add
     (here : slice_get vs (record_venue r) ≡ Some v)
     (is : t.what ≡ r) (next : IsNormalisedNext feed records t left)
     (time_is : time ≡ time_after at.latest t.time) where
-  before_it : NormalisedHistory
+  abbrev before_it : NormalisedHistory
   before_it = (history_at feed vs at.venues (record_venue r) v f here).0
 
-  after_it : NormalisedHistory → NormalisedPoint
+  abbrev after_it : NormalisedHistory → NormalisedPoint
   after_it after = point_with at r time before_it after
 
   of_record : (rest : List Numbered) (text : List ℕ) (after : NormalisedHistory)

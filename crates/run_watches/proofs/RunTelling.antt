@@ -209,14 +209,21 @@ news_of_look w names shows answers rule watch now s t looked =
 
 -- ---- what a venue has given up by itself
 
+-- what is so of what is there, by cases on whether anything is
+pub some_there : {X : Type 0} (P : Type 0) (Q : X → Type 0) (o : Option X) (x : X)
+    → o ≡ Some x → Q x → MatchOption o P Q
+some_there {X} P Q o x there holds =
+    subst (λ (p : Option X). MatchOption p P Q) (sym there) holds
+
 -- the watch at a place that is there, where gaps are given up
-pub watch_there : (watches : GapWatches) (place : ℕ) (watch : GapWatch)
-    → gives_up watches.rule ≡ true → place < length watches.gaps.items
-    → watch ≡ get_or watches.gaps.items place watch → giving_up_at watches place ≡ Some watch
-watch_there watches place watch may inside is =
-    let watch_at = slice_get watches.gaps.items place in
-    ap (λ (b : Bool). if b then watch_at else None) may
-    ∙ slice_get_read watches.gaps.items (length watches.gaps.items) place watch refl inside is
+pub watch_there : (watches : GapWatches) (at place : ℕ) (watch : GapWatch) → at ≡ place
+    → gives_up watches.rule ≡ true → at < length watches.gaps.items
+    → watch ≡ get_or watches.gaps.items at watch → giving_up_at watches place ≡ Some watch
+watch_there watches at place watch same may inside is =
+    let items = watches.gaps.items in
+    sym (ap (λ (i : ℕ). giving_up_at watches i) same)
+    ∙ ap (λ (b : Bool). if b then slice_get items at else None) may
+    ∙ slice_get_read items (length items) at watch refl inside is
 
 -- what is said of it is news of the gaps that are watched, by cases on whether it is there
 noted_if : {E : Type 0} (w : Writing E) (names : VenueNames) (watches : GapWatches)

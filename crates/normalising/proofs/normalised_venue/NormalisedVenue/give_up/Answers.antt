@@ -24,7 +24,7 @@ returns-clause-gap g c = λ opening packets fits.
     let number = c.args.number in
     let old = c.args.self.now.normaliser in
     let new = c.skip_to.new.self.normaliser in
-    let front = ap (λ (s : ArbiterStatus). s.front) (c.status.ensures opening packets fits) in
+    let front = ap (λ (s : ArbiterStatus). s.front) (c.status-front.ensures opening packets fits) in
     let was = c.has_given_up-had_given_up.ensures opening packets fits ∙ sym fits.given_up in
     subst (λ (venue : ℕ). gap_noted c.gap_below.result ≡ gap_skipped venue number
     (front_of packets) old.has_given_up new.has_given_up) c.venue-venue.ensures

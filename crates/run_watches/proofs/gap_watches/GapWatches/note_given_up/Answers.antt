@@ -1,5 +1,5 @@
-use Rattle.std.proofs.Common.{◌∙◌, List, ap, subst, sym, refl}
-use Rattle.std.specs.Prelude.{Option, MatchOption, slice_set, ◌≡◌, ◌/◌}
+use Rattle.std.proofs.Common.{◌∙◌, ℕ, ap, subst, sym, refl}
+use Rattle.std.specs.Prelude.{Option, slice_set, ◌/◌}
 use Rattle.std.proofs.Math.Seq.{map-set_same}
 use Rattle.text_out.specs.Devices.{Writing}
 use Rattle.text_out.specs.Members.{writing_of}
@@ -8,7 +8,7 @@ use Rattle.run_watches.specs.Gaps.{given_up_in}
 use Rattle.run_watches.specs.GivenUps.{giving_up_at, noted_texts}
 use Rattle.run_watches.specs.RunLines.{watched_venue}
 use Rattle.run_watches.specs.declared.gap_watch.GapWatch.{GapWatch}
-use Rattle.run_watches.proofs.RunTelling.{watch_there}
+use Rattle.run_watches.proofs.RunTelling.{some_there, watch_there}
 use Rattle.run_watches.proofs.gap_watches.GapWatches.note_given_up.Goals as goal
 
 pub returns-in-Some-clause-gaps : goal.returns-in-Some-clause-gaps
@@ -25,21 +25,23 @@ returns-in-Some-clause-notes g c =
     let old = c.args.self.now in
     let items = old.gaps.items in
     let place = c.args.venue in
-    let there = watch_there old place c.in-Some.gap.now
+    let there = watch_there old c.index.result place c.in-Some.gap.now c.index.ensures.value
     (sym c.gives_up.ensures ∙ c.if-not-gives_up.false) c.in-Some.ensures.item.3.0
     c.in-Some.ensures.item.1 in
     record {
       rest = refl;
       noted =
-          subst (λ (o : Option GapWatch). MatchOption o _ (λ watch. _
-          ≡ slice_set items place (given_up_in watch c.args.missing))) (sym there)
-          (ap (λ (x : GapWatch). slice_set items place x) c.note_given_up.ensures.watch);
+          some_there _ _ (giving_up_at old place) c.in-Some.gap.now there
+          (ap (λ (x : GapWatch). slice_set items c.index.result x) c.note_given_up.ensures.watch
+          ∙ ap (λ (i : ℕ). slice_set items i (given_up_in c.in-Some.gap.now c.args.missing))
+          c.index.ensures.value);
     }
 
 pub returns-in-Some-clause-says : goal.returns-in-Some-clause-says
 returns-in-Some-clause-says g c =
     let w : Writing g.row.E.Denot = writing_of g.E.TextOut in
-    let there = watch_there c.args.self.now c.args.venue c.in-Some.gap.now
+    let there = watch_there c.args.self.now c.index.result c.args.venue c.in-Some.gap.now
+    c.index.ensures.value
     (sym c.gives_up.ensures ∙ c.if-not-gives_up.false) c.in-Some.ensures.item.3.0
     c.in-Some.ensures.item.1 in
     subst (λ (o : Option GapWatch). SaysEach w
