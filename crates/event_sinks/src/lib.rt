@@ -4,8 +4,8 @@
 //! What a sink prints waits in a [`TextPage`] (`specs/TextPages.antt`). [`TextSink`] writes the
 //! line of each event (`specs/EventLines.antt`).
 //!
-//! A replay ends as [`Replayed`] says. The gaps of its venues then are a list of [`VenueGap`], which
-//! [`write_venue_gaps`] writes on standard error (`specs/VenueGapTexts.antt`).
+//! A replay ends as [`Replayed`] says. The gaps of its venues then are a list of [`VenueGap`],
+//! which [`write_venue_gaps`] writes on standard error (`specs/VenueGapTexts.antt`).
 //!
 //! Begin with `event.rt` and `event_sink.rt`; `lines.rt` has the lines.
 #![tactic(auto)]

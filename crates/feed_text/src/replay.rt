@@ -103,56 +103,6 @@ fn close<F, K: EventSink>(
     Ok(())
 }
 
-/// Reads a capture of a format to its end ([`replay_events`]), with the memory that it needs.
-#[inline(always)]
-fn replay_prepared<R: CaptureIn, F: RecordFormat, K: EventSink>(
-    config: &ReplayConfig<'_>,
-    prepared: Prepared,
-    format: &mut F,
-    reader: &mut R,
-    sink: K,
-    lacks: &mut Vec<VenueGap>,
-) -> Replayed<K, F::Fault>
-    requires can { CanReplay config.now }
-    requires of_venues { F.venues format.old ≡ venues_in config.now }
-    requires starts { IsReplayStart config.now prepared.unread prepared.venues prepared.journal }
-    requires room { length lacks.old.items + 16 ≤ vec_capacity lacks.old }
-    ensures replays { AnswersRun
-        (reading_of R.CaptureIn)
-        (record { reads = F.reads; wants = F.wants; is_bad = F.is_bad; is_whole = F.is_whole })
-        (record { takes = K.takes; fails = K.fails }) K.is_shown
-        config.now (told_facts config.now) reader.old reader.new format.old format.new
-        sink result.sink result.outcome }
-    ensures lacks { OnOk result.outcome (AppendsLacks
-        (reading_of R.CaptureIn)
-        (record { reads = F.reads; wants = F.wants; is_bad = F.is_bad; is_whole = F.is_whole })
-        config.now reader.old reader.new format.old format.new lacks.old.items lacks.new.items) }
-{
-    let Prepared {
-        mut venues,
-        journal,
-        mut unread,
-    } = prepared;
-    let mut output = ReplaySink {
-        journal,
-        time: None,
-        sink,
-    };
-    let outcome = match run(
-        config,
-        format,
-        reader,
-        &mut unread,
-        &mut venues,
-        &mut output,
-    ) {
-        Ok(()) => close(&venues, &mut output.sink, lacks),
-        Err(stop) => Err(stop),
-    };
-    let ReplaySink { sink, .. } = output;
-    Replayed { sink, outcome }
-}
-
 /// Reads a capture of a format to its end, and gives a sink the events of its records and then the
 /// venues' last ones. Where the configuration has a rule for it, what a venue lacks is given up as
 /// though the capture had skips for it. What each venue lacks at the end is appended to `lacks`.
@@ -183,13 +133,35 @@ pub fn replay_events<R: CaptureIn, F: RecordFormat, K: EventSink>(
         (record { reads = F.reads; wants = F.wants; is_bad = F.is_bad; is_whole = F.is_whole })
         config.now reader.old reader.new format.old format.new lacks.old.items lacks.new.items) }
 {
-    match prepare(alloc, config, lacks) {
-        Ok(prepared) => replay_prepared(config, prepared, format, reader, sink, lacks),
-        Err(AllocError) => Replayed {
+    let Ok(prepared) = prepare(alloc, config, lacks) else {
+        return Replayed {
             sink,
             outcome: Err(ReplayStop::NoMemory),
-        },
-    }
+        };
+    };
+    let Prepared {
+        mut venues,
+        journal,
+        mut unread,
+    } = prepared;
+    let mut output = ReplaySink {
+        journal,
+        time: None,
+        sink,
+    };
+    let outcome = match run(
+        config,
+        format,
+        reader,
+        &mut unread,
+        &mut venues,
+        &mut output,
+    ) {
+        Ok(()) => close(&venues, &mut output.sink, lacks),
+        Err(stop) => Err(stop),
+    };
+    let ReplaySink { sink, .. } = output;
+    Replayed { sink, outcome }
 }
 
 /// A replay of a capture to text that ended: the writer, as the last call left it, and how the

@@ -169,34 +169,6 @@ fn tell_answer<K: EventSink>(
     })
 }
 
-/// Publishes the answer of a packet that was the next one, whose datagram has this many bytes, its
-/// items, and what is ready after them.
-#[inline(always)]
-fn publish_next<K: EventSink>(
-    arbiter: &mut Arbiter<Anything>,
-    venue: VenueId,
-    line: LineId,
-    packet: &Packet<'_>,
-    bytes: u64,
-    outcome: Outcome,
-    output: &mut ReplaySink<K>,
-) -> Result<(), PublishStop>
-    requires { venue < output.old.journal.venues }
-    ensures emits { (from : ℕ) (packets : List Input) → Fits arbiter.old packets
-        → SendsPacket from arbiter.old.sent packet.now packets
-        → EmitsInto (record { takes = K.takes; fails = K.fails })
-        (state_of_replay output.old)
-        (packet_answered venue line packet.now.number (length packet.now.messages) bytes
-        (Ok outcome)
-        ∷ map (item_taken venue) (drop (place_of packets from) (stream_of packets)))
-        (state_of_replay output.new) result }
-    ensures sent { OnOk result (SendsReady arbiter.old arbiter.new) }
-{
-    tell_answer(venue, line, packet, bytes, &Ok(outcome), output)?;
-    publish_messages(venue, packet, output)?;
-    publish_ready(arbiter, venue, output)
-}
-
 /// Publishes the answer of a packet, whose datagram has this many bytes, and what is ready then.
 #[inline(always)]
 fn publish_answer<K: EventSink>(
@@ -312,35 +284,9 @@ impl VenueReplay {
         }
         let outcome = self.arbiter.take_next(line, packet);
         look_ahead(venue, packet, output);
-        publish_next(
-            &mut self.arbiter,
-            venue,
-            line,
-            packet,
-            bytes,
-            outcome,
-            output,
-        )
-    }
-
-    /// Takes a datagram of a line, and publishes its outcome and each item that is ready then.
-    fn take_datagram<K: EventSink>(
-        &mut self,
-        venue: VenueId,
-        line: LineId,
-        bytes: &[u8],
-        output: &mut ReplaySink<K>,
-    ) -> Result<(), PublishStop>
-        requires { venue < output.old.journal.venues }
-        ensures { (width : ℕ) (h : History) → Follows width venue self.old h
-            → EmitsOne (record { takes = K.takes; fails = K.fails })
-            width false (datagram_record venue line bytes.now) h
-            (state_of_replay output.old) (state_of_replay output.new) self.new result }
-    {
-        match read_packet(bytes) {
-            Ok(packet) => self.take_packet(venue, line, &packet, bytes.len() as u64, output),
-            Err(fault) => output.tell(&ReplayedEvent::Refusal { venue, line, fault }),
-        }
+        tell_answer(venue, line, packet, bytes, &Ok(outcome), output)?;
+        publish_messages(venue, packet, output)?;
+        publish_ready(&mut self.arbiter, venue, output)
     }
 
     /// Publishes the gap, if one is left. It is a call of its own, so that the loop over records
@@ -369,7 +315,6 @@ impl VenueReplay {
 
     /// Takes a datagram of a line, and publishes its outcome, each item that is ready then, and
     /// where gaps are asked for the one that is left.
-    #[inline(always)]
     pub fn take<K: EventSink>(
         &mut self,
         venue: VenueId,
@@ -384,7 +329,10 @@ impl VenueReplay {
             width gaps (datagram_record venue line bytes.now) h
             (state_of_replay output.old) (state_of_replay output.new) self.new result }
     {
-        let emitted = self.take_datagram(venue, line, bytes, output);
+        let emitted = match read_packet(bytes) {
+            Ok(packet) => self.take_packet(venue, line, &packet, bytes.len() as u64, output),
+            Err(fault) => output.tell(&ReplayedEvent::Refusal { venue, line, fault }),
+        };
         if !gaps {
             return emitted;
         }

@@ -20,9 +20,9 @@ pub struct Quoter {
     pub may_rank: bool,
 }
 
-/// Notes what the venue shows on this side from now on, and ranks it, or takes it out where it isn't
-/// eligible. Where it differs from what the venue showed, its age is newer than all others'. Returns
-/// whether the best side differs then.
+/// Notes what the venue shows on this side from now on, and ranks it, or takes it out where it
+/// isn't eligible. Where it differs from what the venue showed, its age is newer than all others'.
+/// Returns whether the best side differs then.
 #[inline(always)]
 pub fn set_quote(
     sides: &mut VenueSides,

@@ -85,9 +85,9 @@ fn is_ahead(order: &Order<'_>, x: &Best, y: &Best) -> bool
     }
 }
 
-/// Puts `x` in the place of the side at `from`, and moves it past its neighbours to its rank: before
-/// those that it is ahead of, or else behind those that it isn't ahead of. Each of them moves by
-/// one place. Returns its place. `count` is the number of ranks.
+/// Puts `x` in the place of the side at `from`, and moves it past its neighbours to its rank:
+/// before those that it is ahead of, or else behind those that it isn't ahead of. Each of them
+/// moves by one place. Returns its place. `count` is the number of ranks.
 // It returns from two places: where they join, what it writes took 13 more instructions.
 #[inline(always)]
 fn move_to_rank(

@@ -13,4 +13,3 @@ pub mod LateRuns
 pub mod WatchedSteps
 pub mod SnapshotPlaces
 pub mod Replaying
-pub mod RunOvers

@@ -6,11 +6,11 @@
 //! (`specs/Printing.antt`), lists the lines of a packet capture (`specs/Discovery.antt`), counts
 //! messages by type (`specs/TypeRuns.antt`), or normalises a capture of ITCH lines
 //! (`specs/NormaliseRuns.antt`, `specs/NormaliseReports.antt`). At its end standard error reports
-//! what is missing (`specs/ReportedGaps.antt`), which symbols never came (`specs/AbsentSymbols.antt`),
-//! which lines had no datagram, which venues' messages look like ITCH, which sessions nothing names
-//! and which named ones never began (`specs/Watches.antt`, `specs/VenueLooks.antt`,
-//! `specs/Sessions.antt`), and what there is to report of the capture and of the outcome
-//! (`specs/CaptureTexts.antt`, `specs/Ending.antt`).
+//! what is missing (`specs/ReportedGaps.antt`), which symbols never came
+//! (`specs/AbsentSymbols.antt`), which lines had no datagram, which venues' messages look like
+//! ITCH, which sessions nothing names and which named ones never began (`specs/Watches.antt`,
+//! `specs/VenueLooks.antt`, `specs/Sessions.antt`), and what there is to report of the capture and
+//! of the outcome (`specs/CaptureTexts.antt`, `specs/Ending.antt`).
 //!
 //! Outside of it stand hints (`hints.rt`), which are made of the values that a run returns, and the
 //! program, which opens the streams and listens (`nbbo_main`).

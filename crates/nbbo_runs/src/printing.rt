@@ -1,6 +1,6 @@
 //! What is printed of a replay.
 ghost use Rattle.text_out.specs.Members.{reading_of, writing_of};
-ghost use Rattle.std.specs.Prelude.{◌≡◌, ◌≤◌, ◌*◌, ⊤, ℕ, List, [], Err, IfErr, IfOk, IsOkAnd};
+ghost use Rattle.std.specs.Prelude.{◌≡◌, ◌≤◌, ◌*◌, ⊤, ℕ, List, [], Err, IfErr, IfOk, IsOkAnd, vec_len};
 ghost use Rattle.event_sinks.specs.declared.replay_stop.ReplayStop.TheVariants.{NoMemory};
 ghost use Rattle.feed_text.specs.EventReplays.{AnswersRun, venues_in};
 ghost use Rattle.feed_text.specs.Replays.{CanReplay};
@@ -11,10 +11,12 @@ ghost use Rattle.best_rows.specs.RowTexts.{header_of};
 ghost use Rattle.replay_reports.specs.BestRowMakers.{IsInStyle};
 ghost use Rattle.report_rows.specs.RowTexts.{header_text};
 ghost use Rattle.replay_run.specs.Printed.{facts_of_run};
-ghost use Rattle.nbbo_runs.specs.Printing.{IsGapSink, IsSinkBefore, PrintedRows, PrintsAllRows, PrintsPeriods, PrintsRows, PrintsStatistics, PrintsText, PrintsWatched, WritesRows, counting_late, late_told, printing_rows};
+ghost use Rattle.run_notes.specs.AbsentSymbols.{symbols_with};
+ghost use Rattle.nbbo_runs.specs.Printing.{IsGapSink, IsSinkBefore, PrintedRows, PrintsAllRows, PrintsAsked, PrintsPeriods, PrintsRows, PrintsStatistics, PrintsText, PrintsWatched, WritesRows, counting_late, late_told, output_asked, printing_rows};
 
-use crate::config::RunConfig;
+use crate::config::{RunConfig, config_of};
 use crate::fed_sink::FedSink;
+use crate::reported_gaps::is_packet_input;
 use crate::span_replay::replay_in_span;
 use crate::watched_sink::{Missing, replay_watched};
 use best_rows::RowStyle;
@@ -25,7 +27,7 @@ use line_gaps::new_gaps;
 use period_rows::{BestMaker, PeriodCounter, new_best_rows, new_count_rows};
 use replay_reports::{BestRowMaker, ReplayStats, new_best_row_sink};
 use report_rows::{RowMaker, RowSink};
-use run_settings::{PeriodStyle, ReportFormat, RowFormat};
+use run_settings::{PeriodStyle, ReportFormat, RowFormat, RunOutput, RunSettings};
 use std::alloc::{AllocError, Global};
 use text_out::{CaptureIn, LineBuffer, TextOut, write_all};
 
@@ -39,7 +41,7 @@ pub struct Printed<W, F> {
 }
 
 /// Returns what was printed of a replay without periods.
-pub(crate) fn without_periods<W, F>(replayed: Replayed<W, F>) -> Printed<W, F>
+fn without_periods<W, F>(replayed: Replayed<W, F>) -> Printed<W, F>
     ensures { result ≡ record {
       output = replayed.sink;
       outcome = replayed.outcome;
@@ -78,7 +80,7 @@ fn page_before<W>(alloc: Global, output: W) -> Result<TextPage<W>, W>
 
 /// Replays a capture, and prints all lines. Returns the output beside the outcome. What is
 /// missing at the end is left in `missing`.
-pub(crate) fn print_lines<R: CaptureIn, F: RecordFormat, W: TextOut>(
+fn print_lines<R: CaptureIn, F: RecordFormat, W: TextOut>(
     alloc: Global,
     config: &RunConfig<'_>,
     format: &mut F,
@@ -115,11 +117,7 @@ pub(crate) fn print_lines<R: CaptureIn, F: RecordFormat, W: TextOut>(
 }
 
 /// The rows of best lines, before the output. Where memory is refused the output is returned.
-pub(crate) fn rows_before<W>(
-    alloc: Global,
-    style: RowStyle,
-    output: W,
-) -> Result<RowSink<W, BestRowMaker>, W>
+fn rows_before<W>(alloc: Global, style: RowStyle, output: W) -> Result<RowSink<W, BestRowMaker>, W>
     ensures rows { IfOk result (IsSinkBefore IsInStyle
         (header_of style.format style.timed) style output) }
     ensures refused { IfErr result (λ back. back ≡ output) }
@@ -131,7 +129,7 @@ pub(crate) fn rows_before<W>(
 }
 
 /// Makes the rows of gaps, before the output. Where memory is refused the output is returned.
-pub(crate) fn gaps_before<W>(
+fn gaps_before<W>(
     alloc: Global,
     config: &RunConfig<'_>,
     format: RowFormat,
@@ -172,7 +170,7 @@ fn counts_before<W>(
 
 /// Makes the rows of how long national bests stood, before the output. Where memory is refused the
 /// output is returned.
-pub(crate) fn best_times_before<W>(
+fn best_times_before<W>(
     alloc: Global,
     config: &RunConfig<'_>,
     style: PeriodStyle,
@@ -208,7 +206,7 @@ pub(crate) fn best_times_before<W>(
 /// Replays a capture, and prints the rows of a sink that was made before the output, or wasn't, for
 /// want of memory. Returns the output beside the outcome. What is missing at the end is left in
 /// `missing`.
-pub(crate) fn print_rows<R: CaptureIn, F: RecordFormat, W: TextOut + Drop, M: RowMaker + Drop>(
+fn print_rows<R: CaptureIn, F: RecordFormat, W: TextOut + Drop, M: RowMaker + Drop>(
     alloc: Global,
     config: &RunConfig<'_>,
     made: Result<RowSink<W, M>, W>,
@@ -254,7 +252,7 @@ fn late_told<F>(outcome: &Result<(), ReplayStop<F>>, late: u64) -> u64
 /// Replays a capture, and prints the rows of its periods in a style. Returns the output beside the
 /// outcome, and how many datagrams were too late for the periods that were kept. What is missing at
 /// the end is left in `missing`.
-pub(crate) fn print_periods<R: CaptureIn, F: RecordFormat, W: TextOut + Drop>(
+fn print_periods<R: CaptureIn, F: RecordFormat, W: TextOut + Drop>(
     alloc: Global,
     config: &RunConfig<'_>,
     style: PeriodStyle,
@@ -313,9 +311,9 @@ pub fn write_text<W: TextOut, F>(
 
 /// How statistics are printed, and whether the records have times.
 #[derive(Clone, Copy)]
-pub(crate) struct StatsForm {
-    pub(crate) format: ReportFormat,
-    pub(crate) has_times: bool,
+struct StatsForm {
+    format: ReportFormat,
+    has_times: bool,
 }
 
 /// Returns the text of statistics, nothing where a run failed before anything came.
@@ -333,7 +331,7 @@ fn stats_text(
 
 /// Replays a capture, and then prints its statistics, also up to a fault. Returns the output beside
 /// the outcome. What is missing at the end is left in `missing`.
-pub(crate) fn print_stats<R: CaptureIn, F: RecordFormat, W: TextOut>(
+fn print_stats<R: CaptureIn, F: RecordFormat, W: TextOut>(
     alloc: Global,
     config: &RunConfig<'_>,
     form: StatsForm,
@@ -369,5 +367,62 @@ pub(crate) fn print_stats<R: CaptureIn, F: RecordFormat, W: TextOut>(
     Replayed {
         sink: output,
         outcome: printed.and(replayed.outcome),
+    }
+}
+
+/// Replays a capture, and prints what is asked for. Returns the output beside the outcome, and how
+/// many datagrams were too late for the periods that were kept. What is missing at the end is left
+/// in `missing`.
+pub fn print<R: CaptureIn, F: RecordFormat, W: TextOut + Drop>(
+    alloc: Global,
+    settings: &RunSettings,
+    format: &mut F,
+    input: &mut R,
+    output: W,
+    missing: &mut Missing,
+) -> Printed<W, F::Fault>
+    requires { F.venues format.old ≡ vec_len settings.now.feed.sessions }
+    ensures { PrintsAsked
+        (reading_of R.CaptureIn)
+        (record { reads = F.reads; wants = F.wants; is_bad = F.is_bad; is_whole = F.is_whole })
+        (output_asked
+        (reading_of R.CaptureIn) (writing_of W.TextOut) settings.now)
+        settings.now missing.old.is_watched input.old input.new format.old format.new
+        output result.output missing.old.gaps.items missing.new.gaps.items
+        (symbols_with missing.new.absent settings.now.feed.symbols.items) missing.new.ordinals
+        result.late result.outcome }
+{
+    let config = config_of(settings);
+    let timed = is_packet_input(&settings.input);
+    match settings.output {
+        RunOutput::Lines => {
+            without_periods(print_lines(alloc, &config, format, input, output, missing))
+        }
+        RunOutput::Bests(rows) => {
+            let style = RowStyle {
+                format: rows,
+                timed,
+            };
+            let made = rows_before(alloc, style, output);
+            without_periods(print_rows(alloc, &config, made, format, input, missing))
+        }
+        RunOutput::Periods(style) => {
+            print_periods(alloc, &config, style, format, input, output, missing)
+        }
+        RunOutput::BestTimes(style) => {
+            let made = best_times_before(alloc, &config, style, output);
+            without_periods(print_rows(alloc, &config, made, format, input, missing))
+        }
+        RunOutput::Stats(rows) => {
+            let form = StatsForm {
+                format: rows,
+                has_times: timed,
+            };
+            without_periods(print_stats(alloc, &config, form, format, input, output, missing))
+        }
+        RunOutput::Gaps(rows) => {
+            let made = gaps_before(alloc, &config, rows, output);
+            without_periods(print_rows(alloc, &config, made, format, input, missing))
+        }
     }
 }

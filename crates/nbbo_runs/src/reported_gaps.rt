@@ -43,9 +43,9 @@ fn is_part(output: RunOutput) -> bool
     }
 }
 
-/// Whether a run reports the gaps of venues: of a packet capture always, of a capture of the project's
-/// own format at a terminal, and where an option is given that asks for more or less than its
-/// lines.
+/// Whether a run reports the gaps of venues: of a packet capture always, of a capture of the
+/// project's own format at a terminal, and where an option is given that asks for more or less than
+/// its lines.
 pub fn reports_gaps(settings: &RunSettings, terminals: Terminals) -> bool
     ensures { result ≡ reports_gaps settings.now terminals }
 {

@@ -1,38 +1,28 @@
 //! Runs over captures: replays that are printed, and conversions.
 ghost use Rattle.text_out.specs.Members.{reading_of, writing_of};
-ghost use Rattle.std.specs.Prelude.{◌≡◌, ◌++◌, vec_len};
+ghost use Rattle.std.specs.Prelude.{◌≡◌, vec_len};
 ghost use Rattle.run_settings.specs.Lists.{AreOfVenues};
-ghost use Rattle.text_out.specs.StandardError.{SaysEach};
-ghost use Rattle.run_notes.specs.AbsentSymbols.{symbols_with};
-ghost use Rattle.nbbo_runs.specs.AbsentSymbols.{told_absent};
-ghost use Rattle.nbbo_runs.specs.CaptureTexts.{late_texts};
-ghost use Rattle.nbbo_runs.specs.Ending.{ending_status};
 ghost use Rattle.nbbo_runs.specs.Printing.{output_asked};
-ghost use Rattle.nbbo_runs.specs.ReportedGaps.{reported_gaps};
 ghost use Rattle.nbbo_runs.specs.Runs.{RunsBy, RunsConversion, RunsOver};
 ghost use Rattle.nbbo_runs.specs.Timeless.{with_times};
 
 use crate::absent_report::tell_absent;
 use crate::capture_report::write_late;
-use crate::config::{MAX_TURNS, config_of};
+use crate::config::MAX_TURNS;
 use crate::end_report::EndReport;
 use crate::ending::status_of;
 use crate::hints::input_hint;
 use crate::own_capture::OwnCapture;
-use crate::printing::{
-    Printed, StatsForm, best_times_before, gaps_before, print_lines, print_periods, print_rows,
-    print_stats, rows_before, without_periods,
-};
-use crate::reported_gaps::{is_packet_input, report_gaps, reports_gaps};
+use crate::printing::print;
+use crate::reported_gaps::{report_gaps, reports_gaps};
 use crate::symbol_hint::symbol_hint;
 use crate::terminals::Terminals;
 use crate::timeless::tell_timeless;
 use crate::watched_format::WatchedFormat;
 use crate::watched_sink::Missing;
-use best_rows::RowStyle;
 use event_sinks::ReplayStop;
 use line_captures::{PacketFormat, convert};
-use run_settings::{CapturedLine, RunInput, RunOutput, RunSettings};
+use run_settings::{CapturedLine, RunInput, RunSettings};
 use std::alloc::Global;
 use text_out::{CaptureIn, TextOut, write_stderr};
 
@@ -49,38 +39,6 @@ pub struct RunEnd<W> {
 /// Returns whether a run ended since its journal was full.
 fn is_journal_full<F>(outcome: &Result<(), ReplayStop<F>>) -> bool {
     matches!(outcome, Err(ReplayStop::JournalFull))
-}
-
-/// Writes what is missing at the end of a run that printed this, and what is to be said of what was
-/// read, of the outcome, and of datagrams that were too late. Returns the end of the run.
-fn report_end<F: EndReport, W, E: TextOut>(
-    settings: &RunSettings,
-    format: &F,
-    missing: &Missing,
-    printed: Printed<W, F::Fault>,
-    errors: &mut E,
-) -> RunEnd<W>
-    ensures says { SaysEach (writing_of E.TextOut)
-        (reported_gaps printed.outcome missing.now.is_watched missing.now.gaps.items
-        ++ (told_absent printed.outcome missing.now.is_watched
-        (symbols_with missing.now.absent settings.now.feed.symbols.items)
-        ++ (with_times settings.now F.is_timed F.end_texts format.now missing.now.ordinals
-        printed.outcome ++ late_texts printed.late))) errors.old errors.new }
-    ensures output { result.output ≡ printed.output }
-    ensures status { result.status ≡ ending_status printed.outcome }
-{
-    let (outcome, is_told) = (&printed.outcome, missing.is_watched);
-    report_gaps(outcome, is_told, missing.gaps.as_slice(), errors);
-    let symbols = settings.feed.symbols.as_slice();
-    tell_absent(outcome, is_told, symbols, &missing.absent, errors);
-    format.write_end_report(&missing.ordinals, outcome, errors);
-    tell_timeless(settings, format.has_times(), outcome, errors);
-    write_late(printed.late, errors);
-    RunEnd {
-        status: status_of(outcome),
-        is_journal_full: is_journal_full(outcome),
-        output: printed.output,
-    }
 }
 
 /// Replays a capture of a format, of which nothing was read, and prints it as the settings say.
@@ -111,42 +69,20 @@ fn run_over<R: CaptureIn, F: EndReport + Drop, W: TextOut + Drop, E: TextOut>(
 {
     write_stderr(input_hint(terminals.input), errors);
     write_stderr(symbol_hint(settings), errors);
-    let mut missing = Missing::new(alloc, reports_gaps(settings, terminals));
-    let config = config_of(settings);
-    let timed = is_packet_input(&settings.input);
-    let (from, notes) = (&mut format, &mut missing);
-    let printed = match settings.output {
-        RunOutput::Lines => {
-            without_periods(print_lines(alloc, &config, from, input, output, notes))
-        }
-        RunOutput::Bests(rows) => {
-            let style = RowStyle {
-                format: rows,
-                timed,
-            };
-            let made = rows_before(alloc, style, output);
-            without_periods(print_rows(alloc, &config, made, from, input, notes))
-        }
-        RunOutput::Periods(style) => {
-            print_periods(alloc, &config, style, from, input, output, notes)
-        }
-        RunOutput::BestTimes(style) => {
-            let made = best_times_before(alloc, &config, style, output);
-            without_periods(print_rows(alloc, &config, made, from, input, notes))
-        }
-        RunOutput::Stats(rows) => {
-            let form = StatsForm {
-                format: rows,
-                has_times: timed,
-            };
-            without_periods(print_stats(alloc, &config, form, from, input, output, notes))
-        }
-        RunOutput::Gaps(rows) => {
-            let made = gaps_before(alloc, &config, rows, output);
-            without_periods(print_rows(alloc, &config, made, from, input, notes))
-        }
-    };
-    report_end(settings, &format, &missing, printed, errors)
+    let is_told = reports_gaps(settings, terminals);
+    let mut missing = Missing::new(alloc, is_told);
+    let printed = print(alloc, settings, &mut format, input, output, &mut missing);
+    report_gaps(&printed.outcome, is_told, missing.gaps.as_slice(), errors);
+    let symbols = settings.feed.symbols.as_slice();
+    tell_absent(&printed.outcome, is_told, symbols, &missing.absent, errors);
+    format.write_end_report(&missing.ordinals, &printed.outcome, errors);
+    tell_timeless(settings, format.has_times(), &printed.outcome, errors);
+    write_late(printed.late, errors);
+    RunEnd {
+        status: status_of(&printed.outcome),
+        is_journal_full: is_journal_full(&printed.outcome),
+        output: printed.output,
+    }
 }
 
 /// Replays the input, a capture of the project's own format or a packet capture, and prints it as

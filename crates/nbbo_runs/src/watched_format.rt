@@ -1,6 +1,7 @@
 //! A format of captures whose datagrams are watched.
 ghost use Rattle.text_out.specs.Members.{writing_of};
 ghost use Rattle.std.specs.Prelude.{◌≡◌, [], ◌∷◌, ◌++◌, IfNone, IfSome, None, Some, length, slice_get, slice_index_or};
+ghost use Rattle.std.specs.Str.{bytes_eq};
 ghost use Rattle.text_out.specs.StandardError.{SaysEach};
 ghost use Rattle.nbbo_runs.specs.Sessions.{datagram_sightings, is_first, name_in, named_sightings, sighted_by, sighting_of};
 ghost use Rattle.nbbo_runs.specs.VenueLooks.{LooksBy, LooksWith, step_datagram, look_at, look_texts};
@@ -115,13 +116,21 @@ fn name_in(bytes: &[u8]) -> Option<&SessionName>
     bytes.first_chunk::<10>()
 }
 
+/// Returns whether the first session, `first`, has this name.
+#[inline(always)]
+fn has_name(first: &SessionName, name: &SessionName) -> bool
+    ensures { result ≡ bytes_eq first.now name.now }
+{
+    is_same_name(first, name)
+}
+
 /// Returns whether the venue's first session has this name, where there is such a venue.
 #[inline(always)]
 fn is_first(sessions: &[SessionName], venue: VenueId, name: &SessionName) -> bool
     ensures { result ≡ is_first (slice_get sessions.now venue) name.now }
 {
     match sessions.get(venue.index()) {
-        Some(first) => is_same_name(first, name),
+        Some(first) => has_name(first, name),
         None => false,
     }
 }

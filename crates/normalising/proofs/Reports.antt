@@ -1,11 +1,10 @@
 -- What is reported of venues that follow their histories.
-use Rattle.std.proofs.Common.{◌≡◌, ◌++◌, ◌∷◌, ◌∙◌, ℕ, List, [], length, Option, Some, None, sym, ap, subst, inl, inr, arith}
+use Rattle.std.proofs.Common.{◌≡◌, ◌++◌, ◌∷◌, ◌∙◌, ℕ, List, [], length, Some, None, sym, subst, inl, inr, arith}
 use Rattle.std.specs.Prelude.{slice_get}
 use Rattle.std.proofs.lemmas.Option.{slice_get_within}
 use Rattle.feed_types.specs.ListLaws.{get_within}
-use Rattle.event_sinks.specs.declared.venue_gap.VenueGap.{VenueGap}
 use Rattle.normalising.specs.Keeping.{FollowsRun, ReportVenues, ReportsVenue}
-use Rattle.normalising.specs.Normalised.{NormalisedHistory, NormalisedPoint}
+use Rattle.normalising.specs.Normalised.{NormalisedPoint}
 use Rattle.normalising.specs.Reported.{AreReported, IsReport}
 use Rattle.normalising.specs.declared.normalised_feed.NormalisedFeed.{NormalisedFeed}
 use Rattle.normalising.specs.declared.normalised_venue.NormalisedVenue.{NormalisedVenue}

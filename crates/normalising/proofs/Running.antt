@@ -429,8 +429,8 @@ module _ {R S F W : Type 0} {reading : Reading R} {parsing : Parsing S F} {writi
         → RunsOn {A = Unit {0}} writing feed (r ∷ []) x.at IsLeft IsAfter after mid waits longer
         (Err stop)
         → EndsRun writing longer mid last stop ends
-        → AnswersNormalising reading parsing writing feed turns from to start next before last IsPoint
-        (Err ends)
+        → AnswersNormalising reading parsing writing feed turns from to start next before last
+        IsPoint (Err ends)
     stop_answers {to = to} {next = next} turns longer mid last IsLeft IsAfter IsPoint r len
         (Sink stop) ends same piece is writes x t e =
         subst (λ (s : NormaliseStop F).

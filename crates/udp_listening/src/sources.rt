@@ -1,5 +1,5 @@
 //! The sources of a feed's lines.
-ghost use Rattle.std.specs.Prelude.{◌≡◌, ◌++◌, ◌<◌, [], Contains, IfOk, OnOk, is_some, length, map, vec_len};
+ghost use Rattle.std.specs.Prelude.{◌≡◌, ◌++◌, ◌<◌, [], Contains, IfNone, IfOk, IfSome, OnOk, is_some, length, map, true, vec_len};
 ghost use Rattle.run_settings.specs.FurtherOptions.{has_further_options};
 ghost use Rattle.run_watches.specs.RunLines.{heard_lines, watched, watched_lines};
 ghost use Rattle.itch_lines.specs.FeedLines.{IsInItch, source_of};
@@ -153,7 +153,9 @@ fn most_read_of(line: LineId, datagrams: Option<u32>) -> Option<u32>
 
 /// Has a line read on after its session's end while a reply is awaited, where its venue is in ITCH.
 fn read_on<C: Drop>(source: &mut UdpSource<C>, itch: &Option<VenueShare>) -> Result<(), AllocError>
-    ensures { source.new ≡ source.old }
+    ensures rest { source.new ≡ record (source.old) { awaited = source.new.awaited } }
+    ensures own { IfNone itch.now (source.new ≡ source.old) }
+    ensures itch { IfSome itch.now (λ share. OnOk result (is_some source.new.awaited ≡ true)) }
 {
     if let Some(itch) = itch {
         source.read_on_for(itch.share_awaited()?);

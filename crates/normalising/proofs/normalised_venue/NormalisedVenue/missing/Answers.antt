@@ -1,6 +1,5 @@
-use Rattle.std.proofs.Common.{◌≡◌, ◌∙◌, refl, ap, sym, false}
+use Rattle.std.proofs.Common.{◌∙◌, refl, ap, sym}
 use Rattle.std.specs.Prelude.{option_map}
-use Rattle.venue_normaliser.specs.Brought.{has_skip_past}
 use Rattle.normalising.specs.Reported.{missing_by}
 use Rattle.normalising.proofs.normalised_venue.NormalisedVenue.missing.Goals as goal
 

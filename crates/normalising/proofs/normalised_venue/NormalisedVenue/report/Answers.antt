@@ -1,4 +1,4 @@
-use Rattle.std.proofs.Common.{◌≡◌, ◌++◌, ◌∙◌, ap, ap₂}
+use Rattle.std.proofs.Common.{◌++◌, ◌∙◌, ap, ap₂}
 use Rattle.itch_book.specs.Books.{session_orders_of}
 use Rattle.venue_normaliser.specs.Brought.{messages_brought}
 use Rattle.venue_normaliser.specs.Outputs.{events_of}
