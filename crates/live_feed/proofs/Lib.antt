@@ -1,10 +1,5 @@
 pub mod PossibleSections
 pub mod FeedMoves
 pub mod NamedNext
-pub mod ClosedLanes
-pub mod ClosedSubscribers
 pub mod RunMoves
-pub mod Sides
-pub mod Settled
-pub mod OfSessions
 pub mod WholeRuns

@@ -10,13 +10,13 @@ use Rattle.venue_lines.specs.declared.faults.TakeFault.TheVariants as faults
 use Rattle.live_feed.specs.declared.run.line.LineEnd.{LineEnd}
 use Rattle.venue_lines.specs.declared.source.SourceFault.{SourceFault}
 use Rattle.venue_lines.specs.Sources.{failures_after}
-use Rattle.live_feed.specs.declared.subscriber.logged.PollFault.{PollFault}
-use Rattle.live_feed.specs.declared.subscriber.logged.PollFault.TheVariants.{NoMemory, LogFull}
+use Rattle.subscriber_logs.specs.declared.logged.PollFault.{PollFault}
+use Rattle.subscriber_logs.specs.declared.logged.PollFault.TheVariants.{NoMemory, LogFull}
 use Rattle.line_arbiter.specs.Counts.{shown}
 use Rattle.feed_steps.specs.Lanes.{FeedLanes}
 use Rattle.venue_lines.specs.Seats.{SeatState}
 use Rattle.venue_lines.specs.Datagrams.{AreGenuineBytes, TakesDatagram}
-use Rattle.live_feed.specs.subscriber.Logs.{SubscriberLogState, Polls, logged}
+use Rattle.subscriber_logs.specs.Logs.{SubscriberLogState, Polls, logged}
 use Rattle.live_feed.specs.run.Runs.{Taking, TakesDatagrams, HasTaken, LineHasEnded, HasPolled, Pairwise}
 use Rattle.feed_steps.specs.laws.Counts.{shown_sum}
 

@@ -1,8 +1,6 @@
 -- what the lines may carry, and the lanes of a feed
 pub use Rattle.feed_steps.specs.Premises
 pub use Rattle.feed_steps.specs.Lanes
--- the numbers of faults in logs
-pub mod Codes
 -- a venue, the consolidator and a subscriber: what each keeps, and the sections under the locks
 pub mod venue
 pub mod hub

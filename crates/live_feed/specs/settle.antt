@@ -1,4 +1,2 @@
--- The settlement of a feed.
-pub mod Rooms
-pub mod Settlements
-pub mod Closings
+-- The settlement of a feed (feed_settlement).
+pub use Rattle.feed_settlement.specs.Settlements

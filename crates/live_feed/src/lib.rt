@@ -4,12 +4,12 @@
 //! (`venue_lines`). The consolidator's lock guards the journal, the receiving ends of the venues'
 //! lanes and the sending ends of the subscribers' (`hub_lanes`), and beside these the subscribers'
 //! filters: a [`HubCell`]. A line has a [`LineSeat`], which shows what it brought; a [`Subscriber`]
-//! has the receiving end of its lane, its strategy and its log.
+//! has the receiving end of its lane, its strategy and its log (`subscriber_logs`).
 //!
 //! Contract: whenever a lock is free, what it guards is a part of a world of the event machine
 //! (`feed_core`), and each section under the lock is one of its events (`specs/Sections.antt` of
 //! both halves). Begin at their `specs/Cells.antt` and `specs/Hubs.antt` and at
-//! `specs/subscriber/Logs.antt`, and at `feed/open_feed.rt` for the code.
+//! `subscriber_logs`, and at `feed/open_feed.rt` for the code.
 //!
 //! A [`LiveFeed`] has all lanes of a feed, to which nothing came yet (`specs/feed/Feeds.antt`). An
 //! [`OpenFeed`] has them under its locks; each call takes one of these. Outside of a lock nothing
@@ -18,27 +18,23 @@
 //! the methods of [`ConsolidatorState`] and [`VenueCell`].
 //!
 //! Once all threads have returned, `OpenFeed::settle` closes all lanes and returns a
-//! [`Settlement`]: per venue, what was consumed, is in the lane and is ready are the sessions'
-//! streams; per subscriber, its log, what is queued and what wasn't offered are what it wants
-//! (`specs/settle/Settlements.antt`). `settle/venue_lane.rt` closes a venue's lane,
-//! `settle/subscriber_lane.rt` a subscriber's, `settle.rt` all. `run.rt` runs a feed by threads: a
-//! [`Line`] brings what its [`LineSource`] returns (`specs/run/Runs.antt`), and a [`StopHandle`]
-//! ends the run.
+//! [`Settlement`] (`feed_settlement`): per venue, what was consumed, is in the lane and is ready are
+//! the sessions' streams; per subscriber, its log, what is queued and what wasn't offered are what it
+//! wants. `run.rt` runs a feed by threads: a [`Line`] brings what its [`LineSource`] returns
+//! (`specs/run/Runs.antt`), and a [`StopHandle`] ends the run.
 #![tactic(auto)]
 
 mod feed;
 mod hub_cell;
 mod hub_lock;
-mod laws;
 mod lists;
 mod run;
 mod settle;
-mod subscriber;
+mod unsettled;
 
 pub use feed::LiveFeed;
 pub use feed::open_feed::OpenFeed;
 pub use feed::sharing::Shareable;
-pub use laws::settled_items_are_the_sessions;
 pub use run::attendant::{Attendant, Attended, OwnLog, RunView, Unattended};
 pub use run::line::{Line, LineEnd};
 pub use run::report::{RunReport, Stop};
@@ -48,16 +44,13 @@ pub use run::watcher::{Unwatched, Watcher};
 pub use run::whole::{
     FeedEnd, FeedReport, FeedTask, LineReport, LineTask, Subscription, WholeFault,
 };
-pub use settle::fault::SettleFault;
-pub use settle::settlement::Settlement;
-pub use settle::unsettled::Unsettled;
-pub use subscriber::Subscriber;
-pub use subscriber::log::SubscriberLog;
-pub use subscriber::logged::{Logged, PollFault};
+pub use unsettled::Unsettled;
 
-// The halves: a feed's venues, and its consolidator.
+// What it is made of: a feed's venues, its consolidator, its subscribers, and its settlement.
+pub use feed_settlement::{SettleFault, Settlement, settled_items_are_the_sessions};
 pub use feed_steps::FeedName;
 pub use hub_lanes::{Consolidated, journaled_items_are_the_sessions};
+pub use subscriber_logs::{Logged, PollFault, Subscriber, SubscriberLog};
 pub use venue_lines::{
     Datagram, FeedFault, GapFault, LineCounts, LineSeat, LineSource, Looked, RenewalFault,
     SourceFault, TakeFault, VenueStatus, packets_of_the_sessions_are_accepted,

@@ -10,9 +10,9 @@ use Rattle.best_rows.specs.NoticeRowLaws.{rows_at_one_time, text_of_more}
 use Rattle.best_rows.specs.NoticeRows.{AreRowsOf, IsTextOf, notice_row}
 use Rattle.best_rows.specs.declared.style.RowStyle.{RowStyle}
 use Rattle.filter_terms.specs.declared.advice.Advice.{Advice}
-use Rattle.live_feed.specs.declared.subscriber.logged.Logged.{Logged}
-use Rattle.live_feed.specs.declared.subscriber.logged.PollFault.{PollFault}
-use Rattle.live_feed.specs.declared.subscriber.logged.PollFault.TheVariants.{NoMemory, LogFull}
+use Rattle.subscriber_logs.specs.declared.logged.Logged.{Logged}
+use Rattle.subscriber_logs.specs.declared.logged.PollFault.{PollFault}
+use Rattle.subscriber_logs.specs.declared.logged.PollFault.TheVariants.{NoMemory, LogFull}
 use Rattle.live_feed.specs.subscriber.Logs.{SubscriberLogState, Polls, logged}
 use Rattle.udp_listening.specs.Listening.{HasFailed, HasFollowed, HasPrinted, log_rows}
 use Rattle.udp_listening.specs.SettledNotices.{notices_of}

@@ -8,7 +8,7 @@ use Rattle.live_feed.specs.Lanes.{FeedLanes}
 use Rattle.live_feed.specs.declared.run.line.LineEnd.{LineEnd}
 use Rattle.live_feed.specs.declared.run.whole.FeedReport.{FeedReport}
 use Rattle.live_feed.specs.declared.run.whole.LineTask.{LineTask}
-use Rattle.live_feed.specs.declared.subscriber.logged.Logged.{Logged}
+use Rattle.subscriber_logs.specs.declared.logged.Logged.{Logged}
 use Rattle.live_feed.specs.run.Runs.{HasTaken, LineHasEnded, Pairwise}
 use Rattle.live_feed.specs.run.Wholes.{HasAttended, HasWatched, IsBegun, IsWholeRun, line_report, logs_with}
 use Rattle.live_feed.specs.settle.Settlements.{IsSettlement, SettlementState}

@@ -4,7 +4,7 @@ use Rattle.std.specs.Prelude.{IfSome, slice_get}
 use Rattle.std.proofs.lemmas.List.{take-append-le, take_all}
 use Rattle.feed_types.specs.Prefix.{IsPrefix}
 use Rattle.feed_types.specs.declared.journal.Notice.{Notice}
-use Rattle.live_feed.specs.declared.subscriber.logged.Logged.{Logged}
+use Rattle.subscriber_logs.specs.declared.logged.Logged.{Logged}
 use Rattle.live_feed.specs.settle.Settlements.{SettlementState, SubscriberEndState}
 use Rattle.live_feed.specs.subscriber.Logs.{SubscriberLogState}
 use Rattle.run_notes.specs.AbsentLaws.{unchanged_by_both, unchanged_by_none}

@@ -10,7 +10,7 @@ use Rattle.best_rows.specs.NoticeRowLaws.{rows_at_one_time, text_of_more, text_o
 use Rattle.best_rows.specs.NoticeRows.{IsTextOf, notice_row}
 use Rattle.best_rows.specs.RowTexts.{header_of}
 use Rattle.best_rows.specs.declared.style.RowStyle.{RowStyle}
-use Rattle.live_feed.specs.declared.subscriber.logged.Logged.{Logged}
+use Rattle.subscriber_logs.specs.declared.logged.Logged.{Logged}
 use Rattle.live_feed.specs.Lanes.{FeedLanes}
 use Rattle.live_feed.specs.venue.Seats.{SeatState}
 use Rattle.live_feed.specs.settle.Settlements.{IsSettlement, SettlementState, ShowsSubscriber, SubscriberEndState}

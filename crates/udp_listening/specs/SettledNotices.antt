@@ -1,7 +1,7 @@
 -- The notices of the first subscriber of a feed that was settled, and the symbols of which none is.
 use Rattle.std.specs.Prelude.{◌≡◌, ℕ, ◌≤◌, List, [], ◌∷◌, ◌++◌, drop, flat_map, length, map, take}
 use Rattle.feed_types.specs.declared.journal.Notice.{Notice}
-use Rattle.live_feed.specs.declared.subscriber.logged.Logged.{Logged}
+use Rattle.subscriber_logs.specs.declared.logged.Logged.{Logged}
 use Rattle.live_feed.specs.settle.Settlements.{SettlementState, SubscriberEndState}
 use Rattle.run_notes.specs.AbsentSymbols.{unchanged_among}
 

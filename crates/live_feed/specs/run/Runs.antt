@@ -12,7 +12,7 @@ use Rattle.venue_lines.specs.Datagrams.{TakesDatagram}
 use Rattle.venue_lines.specs.Sources.{failures_after}
 use Rattle.feed_steps.specs.Lanes.{FeedLanes}
 use Rattle.venue_lines.specs.Seats.{SeatState}
-use Rattle.live_feed.specs.subscriber.Logs.{SubscriberLogState}
+use Rattle.subscriber_logs.specs.Logs.{SubscriberLogState}
 
 abbrev pub stop_code : Stop → ℕ
 stop_code stops.NoMemory = 12

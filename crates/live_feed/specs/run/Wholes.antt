@@ -8,8 +8,8 @@ use Rattle.live_feed.specs.declared.run.whole.FeedReport.{FeedReport}
 use Rattle.live_feed.specs.declared.run.whole.LineReport.{LineReport}
 use Rattle.live_feed.specs.declared.run.whole.LineTask.{LineTask}
 use Rattle.live_feed.specs.run.Runs.{HasTaken, LineHasEnded, Pairwise}
-use Rattle.live_feed.specs.settle.Settlements.{IsSettlement}
-use Rattle.live_feed.specs.subscriber.Logs.{SubscriberLogState}
+use Rattle.feed_settlement.specs.Settlements.{IsSettlement}
+use Rattle.subscriber_logs.specs.Logs.{SubscriberLogState}
 
 -- there is a log where one is asked for, and nothing is in it yet
 abbrev pub IsBegun : Bool → Option SubscriberLogState → Type 0

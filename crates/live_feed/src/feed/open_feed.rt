@@ -13,8 +13,8 @@ ghost use Rattle.venue_lines.specs.Datagrams.{AreGenuineBytes, AcceptsTheirs, Ta
 use crate::feed::log_size::LogSize;
 use crate::hub_cell::HubCell;
 use crate::hub_lock::HubLock;
-use crate::subscriber::Subscriber;
-use crate::subscriber::log::SubscriberLog;
+use subscriber_logs::Subscriber;
+use subscriber_logs::SubscriberLog;
 use crossbeam_utils::CachePadded;
 use feed_steps::FeedName;
 use feed_types::{Genuine, LineId, SessionName, SubscriberId, VenueId};

@@ -1,14 +1,14 @@
 //! Who stands beside a run.
 
 ghost use Rattle.std.specs.Prelude.{◌≡◌, ◌≤◌, ◌↔◌, length, Err, IfOk, IfSome, IsErrOf};
-ghost use Rattle.live_feed.specs.subscriber.Logs.{Polls};
+ghost use Rattle.subscriber_logs.specs.Logs.{Polls};
 ghost use Rattle.venue_lines.specs.Sections.{SkipsVenue};
 ghost use Rattle.venue_lines.specs.Statuses.{IsPossibleStatus};
 
 use crate::run::idle::{back_off, should_sleep};
 use crate::run::signals::Signals;
-use crate::subscriber::log::SubscriberLog;
-use crate::subscriber::logged::PollFault;
+use subscriber_logs::SubscriberLog;
+use subscriber_logs::PollFault;
 use feed_steps::FeedName;
 use feed_types::{Genuine, SubscriberId, VenueId};
 use filter_terms::Advice;

@@ -4,7 +4,7 @@ ghost use Rattle.std.specs.Prelude.{◌≡◌};
 ghost use Rattle.live_feed.specs.run.Runs.{stop_code};
 
 use crate::run::line::LineEnd;
-use crate::subscriber::Subscriber;
+use subscriber_logs::Subscriber;
 use feed_steps::FeedName;
 use thiserror::Error;
 

@@ -8,7 +8,7 @@ use crate::run::names::name_subscriber;
 use crate::run::signals::Signals;
 use crate::run::subscriber_work::{LogPromise, work_subscriber};
 use crate::run::threads::ThreadOf;
-use crate::subscriber::log::SubscriberLog;
+use subscriber_logs::SubscriberLog;
 use feed_steps::FeedName;
 use filter_terms::Strategy;
 use live_wakeups::Wakeups;

@@ -4,7 +4,7 @@ ghost use Rattle.live_feed.specs.run.Runs.{HasPolled};
 
 use crate::run::idle::{back_off, should_sleep};
 use crate::run::signals::Signals;
-use crate::subscriber::log::SubscriberLog;
+use subscriber_logs::SubscriberLog;
 use feed_steps::FeedName;
 use filter_terms::Strategy;
 use hub_lanes::without_waiting;

@@ -4,7 +4,7 @@ ghost use Rattle.std.specs.Prelude.{◌≡◌, Err, IfOk, OnOk, is_some, length,
 ghost use Rattle.venue_lines.specs.Seats.{new_seat};
 ghost use Rattle.live_feed.specs.run.Runs.{Pairwise};
 ghost use Rattle.live_feed.specs.run.Wholes.{HasAttended, HasWatched, IsBegun, IsWholeRun, line_report, logs_with};
-ghost use Rattle.live_feed.specs.settle.Settlements.{IsSettlement};
+ghost use Rattle.feed_settlement.specs.Settlements.{IsSettlement};
 
 use crate::feed::LiveFeed;
 use crate::feed::open_feed::OpenFeed;
@@ -13,9 +13,9 @@ use crate::run::line::{Line, LineEnd};
 use crate::run::report::{RunReport, Stop};
 use crate::run::rules::RunRules;
 use crate::run::watcher::Watcher;
-use crate::settle::fault::SettleFault;
-use crate::settle::settlement::Settlement;
-use crate::subscriber::Subscriber;
+use feed_settlement::SettleFault;
+use feed_settlement::Settlement;
+use subscriber_logs::Subscriber;
 use feed_steps::FeedName;
 use feed_types::{Genuine, LineId, VenueId};
 use filter_terms::{Filter, Strategy};

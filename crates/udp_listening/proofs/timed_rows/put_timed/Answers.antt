@@ -4,7 +4,7 @@ use Rattle.std.proofs.lemmas.List.{map-append}
 use Rattle.feed_types.specs.declared.journal.Notice.{Notice}
 use Rattle.best_rows.specs.NoticeRowLaws.{rows_of_both, rows_of_none, rows_of_one}
 use Rattle.best_rows.specs.NoticeRows.{AreRowsOf, notice_row}
-use Rattle.live_feed.specs.declared.subscriber.logged.Logged.{Logged}
+use Rattle.subscriber_logs.specs.declared.logged.Logged.{Logged}
 use Rattle.udp_listening.specs.SettledNotices.{notices_of}
 use Rattle.udp_listening.proofs.timed_rows.put_timed.Goals as goal
 

@@ -1,7 +1,7 @@
 use Rattle.std.proofs.Common.{◌≡◌, ◌+◌, ◌++◌, ◌∷◌, ◌∙◌, [], List, ap, sym, take}
 use Rattle.std.proofs.lemmas.Grind.{take_at_read}
 use Rattle.std.proofs.lemmas.List.{map-append}
-use Rattle.live_feed.specs.declared.subscriber.logged.Logged.{Logged}
+use Rattle.subscriber_logs.specs.declared.logged.Logged.{Logged}
 use Rattle.run_notes.specs.AbsentLaws.{more_unchanged, unchanged_by_none}
 use Rattle.udp_listening.specs.SettledNotices.{notices_of}
 use Rattle.udp_listening.proofs.unchanged.note_log.Goals as goal

@@ -1,0 +1,5 @@
+pub mod ClosedLanes
+pub mod ClosedSubscribers
+pub mod Sides
+pub mod Settled
+pub mod OfSessions

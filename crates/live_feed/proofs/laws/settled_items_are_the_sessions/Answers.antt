@@ -1,8 +1,0 @@
-use Rattle.live_feed.proofs.OfSessions.{settled_of_sessions}
-use Rattle.live_feed.proofs.laws.settled_items_are_the_sessions.Goals as goal
-
-pub returns : goal.returns
-returns g c = λ seats logs s venue v all settlement at names.
-    settled_of_sessions g.G.Genuine
-    c.sequence_is_of_the_sessions.ensures g.N.FeedName.lanes seats logs s venue v
-    all settlement at names

@@ -1,9 +1,0 @@
-use Rattle.std.proofs.Common.{◌≡◌, length}
-use Rattle.live_feed.specs.settle.Rooms.{HaveSubscriberRooms}
-use Rattle.live_feed.proofs.settle.rooms.subscriber_rooms.Given as goal
-
-abbrev pub invariant-loop-place : goal.invariant-loop-place
-invariant-loop-place l = record {
-  count : length l.rooms.items ≡ l.place;
-  rooms : HaveSubscriberRooms l.journal l.senders l.rooms.items;
-}
