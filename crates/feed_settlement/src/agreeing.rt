@@ -7,9 +7,9 @@ ghost use Rattle.venue_lines.specs.Seats.{HasItsSeats, is_seat_of};
 ghost use Rattle.feed_settlement.specs.Settlements.{AgreesOn, AgreesWithSeats, AllAgree, AreInOrder};
 
 use crate::tally::{is_of, seats_together};
-use subscriber_logs::Subscriber;
 use feed_steps::FeedName;
 use feed_types::{Genuine, LineId, VenueId};
+use subscriber_logs::Subscriber;
 use venue_lines::{LineSeat, LockedVenue, VenueCell};
 
 /// Whether one of the seats is of the venue's line.

@@ -9,12 +9,12 @@ ghost use Rattle.venue_lines.specs.Brought.{counts_of};
 
 use crate::subscriber_end::SubscriberEnd;
 use crate::venue_end::VenueEnd;
-use subscriber_logs::Logged;
 use feed_types::{Entry, LineId, Notice, Numbered, SubscriberId, VenueId};
 use filter_terms::Terms;
 use journal_book::Journal;
 use mold_packet::Request;
 use std::marker::Model;
+use subscriber_logs::Logged;
 
 /// A feed once its threads have returned: its journal, and what is left of each venue and each
 /// subscriber.

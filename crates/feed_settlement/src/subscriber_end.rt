@@ -2,10 +2,9 @@
 
 ghost use Rattle.std.specs.Prelude.{◌≡◌, drop};
 
-use subscriber_logs::KeptLog;
-use subscriber_logs::Logged;
 use feed_types::Notice;
 use std::marker::Model;
+use subscriber_logs::{KeptLog, Logged};
 
 /// A subscriber's log, what was still in its lane, and what it wants and wasn't offered.
 #[derive(Drop)]

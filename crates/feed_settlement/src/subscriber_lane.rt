@@ -8,13 +8,13 @@ ghost use Rattle.feed_settlement.specs.Closings.{IsToServe};
 use crate::rooms::SubscriberRoom;
 use crate::subscriber_end::SubscriberEnd;
 use crate::venue_lane::drained;
-use subscriber_logs::SubscriberLog;
 use feed_steps::FeedName;
 use feed_types::{Best, National, Notice, SymbolName, VenueId};
 use fifo_lane::{RisingNotices, Sender, settle};
 use filter_terms::Terms;
 use journal_book::Journal;
 use std::sync::Wait;
+use subscriber_logs::SubscriberLog;
 
 /// Appends the notice, for which there is room.
 fn push_notice(room: &mut Vec<Notice>, notice: &Notice)

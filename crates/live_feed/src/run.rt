@@ -34,8 +34,6 @@ use crate::run::stop_handle::StopHandle;
 use crate::run::subscriber_threads::{LogThread, start_subscribers};
 use crate::run::threads::join_each;
 use crate::run::watcher::{Unwatched, Watcher, attend_and_watch};
-use subscriber_logs::Subscriber;
-use subscriber_logs::SubscriberLog;
 use feed_steps::FeedName;
 use feed_types::Genuine;
 use filter_terms::Strategy;
@@ -44,6 +42,7 @@ use std::collections::VecDeque;
 use std::sync::{Mutex, Wait};
 use std::thread;
 use std::thread::{Scope, Threads};
+use subscriber_logs::{Subscriber, SubscriberLog};
 use venue_lines::LineSource;
 
 /// The lines of a run, with room for their threads and for the lines once they have ended.

@@ -6,10 +6,10 @@ ghost use Rattle.filter_terms.specs.Strategies.{closure_of};
 ghost use Rattle.subscriber_logs.specs.Logs.{SubscriberLogInvariant, Polls, logged};
 ghost use Rattle.subscriber_logs.specs.Asking.{AsksForAdvice, AsksOnce};
 
-use crate::subscriber::Subscriber;
 use crate::advising::{advise, holding_within};
 use crate::kept_log::KeptLog;
 use crate::logged::{Logged, PollFault};
+use crate::subscriber::Subscriber;
 use feed_steps::FeedName;
 use feed_types::{Notice, SubscriberId};
 use fifo_lane::{Receiver, RisingNotices};

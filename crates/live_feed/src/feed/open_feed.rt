@@ -13,8 +13,6 @@ ghost use Rattle.venue_lines.specs.Datagrams.{AreGenuineBytes, AcceptsTheirs, Ta
 use crate::feed::log_size::LogSize;
 use crate::hub_cell::HubCell;
 use crate::hub_lock::HubLock;
-use subscriber_logs::Subscriber;
-use subscriber_logs::SubscriberLog;
 use crossbeam_utils::CachePadded;
 use feed_steps::FeedName;
 use feed_types::{Genuine, LineId, SessionName, SubscriberId, VenueId};
@@ -25,6 +23,7 @@ use line_arbiter::Outcome;
 use mold_packet::Request;
 use std::alloc::Global;
 use std::sync::Wait;
+use subscriber_logs::{Subscriber, SubscriberLog};
 use venue_lines::{
     Datagram, FeedFault, GapFault, LineSeat, Looked, RenewalFault, TakeFault, VenueLocks,
 };

@@ -7,13 +7,12 @@ ghost use Rattle.venue_lines.specs.Statuses.{IsPossibleStatus};
 
 use crate::run::idle::{back_off, should_sleep};
 use crate::run::signals::Signals;
-use subscriber_logs::SubscriberLog;
-use subscriber_logs::PollFault;
 use feed_steps::FeedName;
 use feed_types::{Genuine, SubscriberId, VenueId};
 use filter_terms::Advice;
 use std::sync::Wait;
 use std::thread::Threads;
+use subscriber_logs::{PollFault, SubscriberLog};
 use venue_lines::{FeedFault, GapFault, VenueLocks, VenueStatus};
 
 /// A run as a thread beside it sees it, that of its attendant or of its watcher: whether it is

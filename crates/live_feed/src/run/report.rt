@@ -4,8 +4,8 @@ ghost use Rattle.std.specs.Prelude.{◌≡◌};
 ghost use Rattle.live_feed.specs.run.Runs.{stop_code};
 
 use crate::run::line::LineEnd;
-use subscriber_logs::Subscriber;
 use feed_steps::FeedName;
+use subscriber_logs::Subscriber;
 use thiserror::Error;
 
 /// Why a run stopped early. The lines read no further datagram then, and no further item is

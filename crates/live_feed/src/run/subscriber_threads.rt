@@ -8,13 +8,13 @@ use crate::run::names::name_subscriber;
 use crate::run::signals::Signals;
 use crate::run::subscriber_work::{LogPromise, work_subscriber};
 use crate::run::threads::ThreadOf;
-use subscriber_logs::SubscriberLog;
 use feed_steps::FeedName;
 use filter_terms::Strategy;
 use live_wakeups::Wakeups;
 use std::snapshot::Snapshot;
 use std::sync::{Mutex, Wait};
 use std::thread::{Scope, Threads};
+use subscriber_logs::SubscriberLog;
 
 /// A subscriber's thread, or its log where none could be started: it has taken nothing.
 pub(crate) type LogThread<N> = ThreadOf<SubscriberLog<N>, LogPromise<N>>;

@@ -4,7 +4,6 @@ ghost use Rattle.live_feed.specs.run.Runs.{HasPolled};
 
 use crate::run::idle::{back_off, should_sleep};
 use crate::run::signals::Signals;
-use subscriber_logs::SubscriberLog;
 use feed_steps::FeedName;
 use filter_terms::Strategy;
 use hub_lanes::without_waiting;
@@ -12,6 +11,7 @@ use live_wakeups::Wakeups;
 use std::snapshot::Snapshot;
 use std::sync::{Mutex, Wait};
 use std::thread::Promise;
+use subscriber_logs::SubscriberLog;
 
 /// The log that a subscriber's thread has. The thread returns the same log, later on.
 #[derive(Drop)]

@@ -13,9 +13,7 @@ use crate::run::line::{Line, LineEnd};
 use crate::run::report::{RunReport, Stop};
 use crate::run::rules::RunRules;
 use crate::run::watcher::Watcher;
-use feed_settlement::SettleFault;
-use feed_settlement::Settlement;
-use subscriber_logs::Subscriber;
+use feed_settlement::{SettleFault, Settlement};
 use feed_steps::FeedName;
 use feed_types::{Genuine, LineId, VenueId};
 use filter_terms::{Filter, Strategy};
@@ -23,6 +21,7 @@ use journal_book::JournalFault;
 use std::alloc::{AllocError, Global};
 use std::sync::Wait;
 use std::thread::Threads;
+use subscriber_logs::Subscriber;
 use thiserror::Error;
 use venue_lines::{FeedFault, LineSeat, LineSource, SourceFault};
 
