@@ -1,8 +1,8 @@
 //! The settlement of a live feed: its lanes are closed once all threads have returned.
 //!
-//! [`settle_parts`] takes what a feed's locks guarded, [`FeedParts`], with the seats of its lines and
-//! its subscribers. It makes room for all that is left, closes each lane, and returns a
-//! [`Settlement`]; where something is missing, or memory is, it hands everything back.
+//! [`settle_parts`] takes what a feed's locks guarded, [`FeedParts`], with its lines' seats and its
+//! subscribers. It makes room for all that is left, closes each lane, and returns a [`Settlement`];
+//! where something is missing, or memory is refused, it hands everything back.
 //!
 //! Contract: a venue's items that were consumed, that are in its lane and that are ready are its
 //! sessions' streams; a subscriber's notices, logged, queued, then not offered, are what it wants

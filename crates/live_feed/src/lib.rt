@@ -8,7 +8,7 @@
 //!
 //! Contract: whenever a lock is free, what it guards is a part of a world of the event machine
 //! (`feed_core`), and each section under the lock is one of its events (`specs/Sections.antt` of
-//! both halves). Begin at their `specs/Cells.antt` and `specs/Hubs.antt` and at
+//! both halves). Begin at their `specs/Cells.antt` and `specs/Hubs.antt`, at `specs/Logs.antt` of
 //! `subscriber_logs`, and at `feed/open_feed.rt` for the code.
 //!
 //! A [`LiveFeed`] has all lanes of a feed, to which nothing came yet (`specs/feed/Feeds.antt`). An
@@ -18,10 +18,10 @@
 //! the methods of [`ConsolidatorState`] and [`VenueCell`].
 //!
 //! Once all threads have returned, `OpenFeed::settle` closes all lanes and returns a
-//! [`Settlement`] (`feed_settlement`): per venue, what was consumed, is in the lane and is ready are
-//! the sessions' streams; per subscriber, its log, what is queued and what wasn't offered are what it
-//! wants. `run.rt` runs a feed by threads: a [`Line`] brings what its [`LineSource`] returns
-//! (`specs/run/Runs.antt`), and a [`StopHandle`] ends the run.
+//! [`Settlement`] (`feed_settlement`): per venue, what was consumed, is in the lane and is ready
+//! are the sessions' streams; per subscriber, its log, what is queued and what wasn't offered are
+//! what it wants. `run.rt` runs a feed by threads: a [`Line`] brings what its [`LineSource`]
+//! returns (`specs/run/Runs.antt`), and a [`StopHandle`] ends the run.
 #![tactic(auto)]
 
 mod feed;

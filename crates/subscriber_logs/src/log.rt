@@ -221,7 +221,8 @@ impl<N: FeedName> SubscriberLog<N> {
         self.wakeups.set_polled(self.owner, false);
     }
 
-    /// Makes it a subscriber again, as a feed's `run` and `settle` take it, whose strategy always holds, within the limits of the one that it had.
+    /// Makes it a subscriber again, as a feed's `run` and `settle` take it, whose strategy always
+    /// holds, within the limits of the one that it had.
     pub fn into_subscriber(self) -> Subscriber<N>
         ensures log { result.log ≡ self }
         ensures strategy { (closure_of result.strategy ≡ None)
