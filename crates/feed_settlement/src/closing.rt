@@ -1,6 +1,6 @@
 //! The closing of a feed's lanes.
 
-ghost use Rattle.std.specs.Prelude.{◌≡◌, length, map, IfOk, IfErr, OnOk};
+ghost use Rattle.std.specs.Prelude.{◌≡◌, length, map, IfOk, OnOk};
 ghost use Rattle.feed_settlement.specs.Settlements.{AllAgree, AreInOrder, AreVenues, IsClosedVenue, IsSettlement, ShowsSubscriber};
 ghost use Rattle.feed_settlement.specs.Closings.{HasRoom, IsClosedFeed, IsToClose, IsToServe};
 
@@ -30,9 +30,12 @@ pub struct FeedParts<G: Genuine, N: FeedName> {
 }
 
 /// Makes room for everything that is left of the feed, where the venues count what their seats
-/// show. (What was looked at under the locks is looked at again: nothing is known of it once they
-/// are let go.)
-fn room_for<G: Genuine, N: FeedName>(
+/// show, and the subscribers are those of the feed, in the order of their ids. (What was looked at
+/// under the locks is looked at again: nothing is known of it once they are let go.)
+///
+/// CountsDiffer where a venue's counts differ from those of its seats; SubscribersMissing where a
+/// subscriber is missing or out of order; NoMemory where memory for the lists was refused.
+pub fn room_for<G: Genuine, N: FeedName>(
     alloc: Global,
     parts: &FeedParts<G, N>,
     seats: &[LineSeat<G, N>],
@@ -100,25 +103,22 @@ fn close_lanes<G: Genuine, N: FeedName, W: Wait>(
     Settlement::new(journal, venue_ends, subscriber_ends)
 }
 
-/// Closes all lanes of a feed that was taken out of its locks, and returns the settlement. The
-/// subscribers are those of the feed, in the order of their ids.
-///
-/// SubscribersMissing where a subscriber is missing or out of order; CountsDiffer where a venue's
-/// counts differ from those of its seats; NoMemory where memory for the lists was refused: all of
-/// it is taken before a lane is closed. Each hands everything back.
-pub fn settle_parts<G: Genuine, N: FeedName, W: Wait>(
+/// Closes all lanes of a feed that was taken out of its locks, for which `room_for` made this room,
+/// and returns the settlement.
+pub fn close_feed<G: Genuine, N: FeedName, W: Wait>(
     rt: &W,
-    alloc: Global,
     parts: FeedParts<G, N>,
     seats: &[LineSeat<G, N>],
     subscribers: Vec<Subscriber<N>>,
-) -> Result<Settlement, (SettleFault, FeedParts<G, N>, Vec<Subscriber<N>>)>
-    ensures settled { IfOk result (IsSettlement G.Genuine N.lanes seats.now
-        (map (λ s. s.log) subscribers.items)) }
-    ensures back { IfErr result (λ back. (back.1 ≡ parts) × (back.2 ≡ subscribers)) }
+    room: FeedRoom,
+) -> Settlement
+    requires agree { AllAgree seats.now (map (λ g. g.cell) parts.venues.items) }
+    requires order { AreInOrder (map (λ s. s.log) subscribers.items) }
+    requires counts { (length parts.venues.items ≡ parts.core.journal.venues)
+        × (length subscribers.items ≡ length parts.core.journal.cursors) }
+    requires room { HasRoom (map (λ g. g.cell) parts.venues.items) parts.core room }
+    ensures { IsSettlement G.Genuine N.lanes seats.now (map (λ s. s.log) subscribers.items)
+        result }
 {
-    match room_for(alloc, &parts, seats, subscribers.as_slice()) {
-        Ok(room) => Ok(close_lanes(rt, parts, subscribers, room)),
-        Err(fault) => Err((fault, parts, subscribers)),
-    }
+    close_lanes(rt, parts, subscribers, room)
 }

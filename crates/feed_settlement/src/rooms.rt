@@ -18,7 +18,7 @@ use venue_lines::{LockedVenue, VenueCell};
 /// Empty lists for a venue's items: those that were consumed, that are in its lane, and that are
 /// ready.
 #[derive(Drop)]
-pub(crate) struct VenueRoom {
+pub struct VenueRoom {
     pub(crate) consumed: Vec<Numbered>,
     pub(crate) in_lane: Vec<Numbered>,
     pub(crate) ready: Vec<Numbered>,
@@ -26,14 +26,14 @@ pub(crate) struct VenueRoom {
 
 /// Empty lists for a subscriber's notices: those in its lane, and those that weren't offered.
 #[derive(Drop)]
-pub(crate) struct SubscriberRoom {
+pub struct SubscriberRoom {
     pub(crate) queued: Vec<Notice>,
     pub(crate) unoffered: Vec<Notice>,
 }
 
 /// The room for what is left of all venues and subscribers.
 #[derive(Drop)]
-pub(crate) struct FeedRoom {
+pub struct FeedRoom {
     pub(crate) venues: Vec<VenueRoom>,
     pub(crate) venue_ends: Vec<VenueEnd>,
     pub(crate) subscribers: Vec<SubscriberRoom>,

@@ -8,7 +8,7 @@ use subscriber_logs::{KeptLog, Logged};
 
 /// A subscriber's log, what was still in its lane, and what it wants and wasn't offered.
 #[derive(Drop)]
-pub(crate) struct SubscriberEnd {
+pub struct SubscriberEnd {
     taken: KeptLog,
     inside: Vec<Notice>,
     unsent: Vec<Notice>,

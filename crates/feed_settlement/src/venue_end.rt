@@ -13,7 +13,7 @@ use venue_lines::CountedLines;
 /// A venue's items, parted in those that were consumed, those that still lay in the lane and those
 /// that are ready after those, what is counted per line, and what is missing.
 #[derive(Drop)]
-pub(crate) struct VenueEnd {
+pub struct VenueEnd {
     journaled: Vec<Numbered>,
     inside: Vec<Numbered>,
     unsent: Vec<Numbered>,

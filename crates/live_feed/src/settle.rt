@@ -11,7 +11,7 @@ use crate::lists::made_of_each;
 use crate::unsettled::Unsettled;
 use crossbeam_utils::CachePadded;
 use feed_settlement::{
-    FeedParts, SettleFault, Settlement, are_in_order, has_its_seats, settle_parts,
+    FeedParts, SettleFault, Settlement, are_in_order, close_feed, has_its_seats, room_for,
 };
 use feed_steps::FeedName;
 use feed_types::Genuine;
@@ -165,9 +165,9 @@ impl<G: Genuine, N: FeedName> OpenFeed<G, N> {
                 });
             }
         };
-        match settle_parts(rt, alloc, parts, seats.as_slice(), subscribers) {
-            Ok(settlement) => Ok(settlement),
-            Err((fault, parts, subscribers)) => Err(Unsettled {
+        match room_for(alloc, &parts, seats.as_slice(), subscribers.as_slice()) {
+            Ok(room) => Ok(close_feed(rt, parts, seats.as_slice(), subscribers, room)),
+            Err(fault) => Err(Unsettled {
                 fault,
                 feed: relock(parts, frame),
                 seats,

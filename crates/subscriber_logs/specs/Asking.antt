@@ -19,12 +19,19 @@ pub record AsksOnce {g F m : _} (limits : Limits) (notice : Notice) (answer : Ad
   pub advises : Advises old shown advice new
   pub counts : old.limits ≡ limits → answer ≡ advice
 
--- The strategy of who polls, by cases on the answer: it was asked once on the notice that was
--- logged, and is as it was where none was.
+-- Who is asked by a poll, by cases on the answer: it was asked once on the notice that was logged,
+-- as `asks` says, and is as it was where none was.
+abbrev pub AsksBy : {A : Type 0} → (Limits → Notice → Advice → A → A → Type 0)
+    → Result (Option Advice) PollFault → SubscriberLogState → SubscriberLogState → A → A → Type 0
+AsksBy asks (Ok (Some advice)) old new before after =
+    (notice : Notice) × (new.lines ≡ old.lines ++ logged notice advice ∷ [])
+    × asks old.limits notice advice before after
+AsksBy asks (Ok None) old new before after = after ≡ before
+AsksBy asks (Err fault) old new before after = after ≡ before
+
+-- the strategy of who polls
 abbrev pub AsksForAdvice : {g F m : _} → Result (Option Advice) PollFault → SubscriberLogState
     → SubscriberLogState → Strategy g F m → Strategy g F m → Type 0
-AsksForAdvice (Ok (Some advice)) old new before after =
-    (notice : Notice) × (new.lines ≡ old.lines ++ logged notice advice ∷ [])
-    × AsksOnce old.limits notice advice before after
-AsksForAdvice (Ok None) old new before after = after ≡ before
-AsksForAdvice (Err fault) old new before after = after ≡ before
+AsksForAdvice polled old new before after =
+    AsksBy (λ limits notice advice b a. AsksOnce limits notice advice b a) polled old new before
+    after

@@ -18,6 +18,8 @@ pub use log::SubscriberLog;
 pub use logged::{Logged, PollFault};
 pub use subscriber::Subscriber;
 
-// What a settlement takes of a log, and no program.
+// What a feed polls a log by, and what a settlement takes of it, and no program.
+#[doc(hidden)]
+pub use advising::Adviser;
 #[doc(hidden)]
 pub use kept_log::KeptLog;

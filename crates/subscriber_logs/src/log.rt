@@ -4,16 +4,16 @@ ghost use Rattle.std.specs.Prelude.{◌≡◌, ◌+◌, ◌-◌, ◌<◌, ◌≤
 ghost use Rattle.filter_terms.specs.Allowed.{IsAllowed};
 ghost use Rattle.filter_terms.specs.Strategies.{closure_of};
 ghost use Rattle.subscriber_logs.specs.Logs.{SubscriberLogInvariant, Polls, logged};
-ghost use Rattle.subscriber_logs.specs.Asking.{AsksForAdvice, AsksOnce};
+ghost use Rattle.subscriber_logs.specs.Asking.{AsksBy};
 
-use crate::advising::{advise, holding_within};
+use crate::advising::{Adviser, holding_within};
 use crate::kept_log::KeptLog;
 use crate::logged::{Logged, PollFault};
 use crate::subscriber::Subscriber;
 use feed_steps::FeedName;
 use feed_types::{Notice, SubscriberId};
 use fifo_lane::{Receiver, RisingNotices};
-use filter_terms::{Advice, Limits, Strategy};
+use filter_terms::{Advice, Limits};
 use live_wakeups::Wakeups;
 use std::alloc::Global;
 use std::marker::{Model, PhantomData};
@@ -55,23 +55,13 @@ impl<N: FeedName> Model for SubscriberLog<N> {
     }) };
 }
 
-/// What the strategy advises, which is asked once, where its limits are these; for another one,
-/// which no subscriber has, it is to hold.
-fn advised(strategy: &mut Strategy, bounds: Limits, notice: &Notice) -> Advice
-    ensures allowed { IsAllowed bounds notice.now result }
-    ensures asks { AsksOnce bounds notice.now result strategy.old strategy.new }
-{
-    let same = strategy.limits == bounds;
-    let advice = advise(strategy, notice);
-    // No subscriber has other limits here than its strategy's: they are taken from it in
-    // `subscribe`, or its strategy is made for them. That can't be said of a type that holds a
-    // closure beside a feed's name, so it is looked at, and what isn't known to be allowed doesn't
-    // count.
-    if same { advice } else { Advice::Hold }
-}
-
 /// Asks for advice on the notice, and logs it. There is room for a line.
-fn log_line(taken: &mut KeptLog, strategy: &mut Strategy, bounds: Limits, notice: &Notice) -> Advice
+fn log_line<A: Adviser>(
+    taken: &mut KeptLog,
+    adviser: &mut A,
+    bounds: Limits,
+    notice: &Notice,
+) -> Advice
     requires few { length taken.old.lines < taken.old.most }
     requires ready { IsTrue taken.old.ready }
     ensures logged { taken.new ≡ record taken.old {
@@ -79,9 +69,9 @@ fn log_line(taken: &mut KeptLog, strategy: &mut Strategy, bounds: Limits, notice
       ready = taken.new.ready;
     } }
     ensures allowed { IsAllowed bounds notice.now result }
-    ensures asks { AsksOnce bounds notice.now result strategy.old strategy.new }
+    ensures asks { A.asks bounds notice.now result adviser.old adviser.new }
 {
-    let advice = advised(strategy, bounds, notice);
+    let advice = adviser.advise_within(bounds, notice);
     taken.push(notice, &advice);
     advice
 }
@@ -164,6 +154,13 @@ impl<N: FeedName> SubscriberLog<N> {
         self.wakeups.times().time_of(number)
     }
 
+    /// The limits of the subscriber's strategy.
+    pub fn limits(&self) -> Limits
+        ensures { result ≡ self.now.limits }
+    {
+        self.bounds
+    }
+
     /// The subscriber's id.
     pub fn id(&self) -> SubscriberId
         ensures { result ≡ self.now.id }
@@ -171,17 +168,17 @@ impl<N: FeedName> SubscriberLog<N> {
         self.owner
     }
 
-    /// Takes the next notice and logs the strategy's advice on it. Where another notice waits for
+    /// Takes the next notice and logs the adviser's advice on it. Where another notice waits for
     /// the room that this makes, the consolidators are woken. It waits for a push that goes on, or
     /// with no handle for nobody. A refused poll ends the polls, as `end_polls` does: a run doesn't
     /// wait for who can't take what it offers.
-    pub fn poll<W: Wait>(
+    pub fn poll<W: Wait, A: Adviser>(
         &mut self,
         rt: Option<&W>,
-        strategy: &mut Strategy,
+        adviser: &mut A,
     ) -> Result<Option<Advice>, PollFault>
         ensures polls { Polls result self.old self.new }
-        ensures asks { AsksForAdvice result self.old self.new strategy.old strategy.new }
+        ensures asks { AsksBy A.asks result self.old self.new adviser.old adviser.new }
     {
         if self.taken.is_full() {
             self.end_polls();
@@ -195,7 +192,7 @@ impl<N: FeedName> SubscriberLog<N> {
             return Ok(None);
         };
         self.wakeups.wake_for_room(self.owner);
-        let advice = log_line(&mut self.taken, strategy, self.bounds, &notice);
+        let advice = log_line(&mut self.taken, adviser, self.bounds, &notice);
         Ok(Some(advice))
     }
 

@@ -21,7 +21,7 @@ use journal_book::JournalFault;
 use std::alloc::{AllocError, Global};
 use std::sync::Wait;
 use std::thread::Threads;
-use subscriber_logs::Subscriber;
+use subscriber_logs::{Subscriber, SubscriberLog};
 use thiserror::Error;
 use venue_lines::{FeedFault, LineSeat, LineSource, SourceFault};
 
@@ -259,6 +259,18 @@ fn parted<G: Genuine, N: FeedName, S: Drop>(
     Ok((seats, lines))
 }
 
+/// The attendant's log as a subscriber's, whose strategy always holds.
+fn holding<N: FeedName>(log: SubscriberLog<N>) -> Subscriber<N>
+    ensures { result.log ≡ log }
+{
+    let limits = log.limits();
+    let strategy = Strategy {
+        limits,
+        stored: None,
+    };
+    Subscriber { log, strategy }
+}
+
 /// All subscribers: the attendant's, if it has one, and the others.
 fn all_subscribers<N: FeedName>(
     log: OwnLog<N>,
@@ -269,7 +281,7 @@ fn all_subscribers<N: FeedName>(
 {
     let mut all = others;
     if let Some(log) = log {
-        all.insert(0, log.into_subscriber())?;
+        all.insert(0, holding(log))?;
     }
     Ok(all)
 }

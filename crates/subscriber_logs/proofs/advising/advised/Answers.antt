@@ -1,5 +1,5 @@
 use Rattle.std.proofs.Common.{rules, refl}
-use Rattle.subscriber_logs.proofs.log.advised.Goals as goal
+use Rattle.subscriber_logs.proofs.advising.advised.Goals as goal
 
 pub returns-then-same-clause-asks : goal.returns-then-same-clause-asks
 returns-then-same-clause-asks g c = record {
