@@ -1,11 +1,13 @@
 -- What is said on standard error at the end of a run of normalise. This project's own texts.
 use Rattle.std.specs.Prelude.{ℕ, ◌==◌, ◌&&◌, not, List, [], ◌∷◌, ◌++◌, codes, decimal, flat_map, Option, Some, None, Result, Ok, Err, if◌then◌else◌}
-use Rattle.event_sinks.specs.VenueGapTexts.{missing_texts, venue_gap_texts}
+use Rattle.event_sinks.specs.VenueGapTexts.{venue_gap_texts}
 use Rattle.event_sinks.specs.declared.venue_gap.VenueGap.{VenueGap}
 use Rattle.feed_types.specs.declared.missing_range.MissingRange.{MissingRange}
 use Rattle.event_sinks.specs.declared.replay_stop.ReplayStop.{ReplayStop}
 use Rattle.itch_book.specs.declared.fault.BookFault.{BookFault}
-use Rattle.itch_book.specs.declared.fault.BookFault.TheVariants.{DuplicateSymbol, NoMemory, TooManyOrders, TooManyShares, TooManySymbols}
+use Rattle.itch_book.specs.declared.fault.BookFault.TheVariants.{NoMemory}
+use Rattle.run_notes.specs.ItchNotes.{book_fault_texts, unquoted_texts}
+use Rattle.run_settings.specs.declared.venue_names.VenueNames.TheVariants.{Numbers}
 use Rattle.normalising.specs.declared.normalise_stop.NormaliseStop.{NormaliseStop}
 use Rattle.normalising.specs.declared.normalise_stop.NormaliseStop.TheVariants as stops
 use Rattle.normalising.specs.declared.packet_counts.PacketCounts.{PacketCounts}
@@ -18,12 +20,6 @@ use Rattle.venue_normaliser.specs.declared.resume_fault.ResumeFault.TheVariants 
 -- a line of a venue
 abbrev pub venue_line_texts : (venue : ℕ) → (text : List ℕ) → List (List ℕ)
 venue_line_texts venue text = codes "nbbo: venue " ∷ decimal venue ∷ text ∷ []
-
--- of a gap that was given up which messages are missing, and that the venue is quoted no more
-abbrev pub given_up_texts : VenueGap → List (List ℕ)
-given_up_texts gap =
-    venue_line_texts gap.venue (codes " lacks ")
-    ++ (missing_texts gap.messages ++ codes ", and is quoted no more\n" ∷ [])
 
 -- ---- the report of a venue
 
@@ -59,12 +55,7 @@ venue_report_texts report =
 -- the book of a venue
 abbrev pub book_stop_texts : (venue : ℕ) → BookFault → List (List ℕ)
 book_stop_texts venue NoMemory = codes "nbbo: no memory\n" ∷ []
-book_stop_texts venue TooManyOrders =
-    venue_line_texts venue (codes " has more live orders than --orders\n")
-book_stop_texts venue TooManyShares =
-    venue_line_texts venue (codes " would show more than 2^63 shares at a price\n")
-book_stop_texts venue TooManySymbols = venue_line_texts venue (codes " has too many symbols\n")
-book_stop_texts venue DuplicateSymbol = venue_line_texts venue (codes " has a symbol twice\n")
+book_stop_texts venue fault = book_fault_texts Numbers venue fault
 
 -- it wasn't begun
 abbrev pub begin_fault_texts : NormaliserFault → List (List ℕ)
@@ -98,5 +89,5 @@ abbrev pub normalise_texts : {S F : Type 0}
     → (end_texts : S → List ℕ → Result (Unit {0}) (ReplayStop F) → List (List ℕ)) → (read : S)
     → List VenueGap → List VenueReport → Result (Unit {0}) (NormaliseStop F) → List (List ℕ)
 normalise_texts end_texts read gaps reports outcome =
-    flat_map given_up_texts gaps
+    flat_map (unquoted_texts Numbers) gaps
     ++ (flat_map venue_report_texts reports ++ normalise_end_texts end_texts read outcome)

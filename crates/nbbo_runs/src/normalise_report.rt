@@ -2,13 +2,17 @@
 ghost use Rattle.text_out.specs.Members.{writing_of};
 ghost use Rattle.std.specs.Prelude.{◌≡◌, ◌++◌, [], Ok, flat_map};
 ghost use Rattle.text_out.specs.StandardError.{SaysEach};
-ghost use Rattle.nbbo_runs.specs.NormaliseReports.{begin_fault_texts, book_stop_texts, given_up_texts, normalise_end_texts, normalise_texts, own_messages_texts, resume_fault_texts, standing_texts, venue_count_texts, venue_line_texts, venue_report_texts};
+ghost use Rattle.run_notes.specs.ItchNotes.{unquoted_texts};
+ghost use Rattle.run_settings.specs.declared.venue_names.VenueNames.TheVariants.{Numbers};
+ghost use Rattle.nbbo_runs.specs.NormaliseReports.{begin_fault_texts, book_stop_texts, normalise_end_texts, normalise_texts, own_messages_texts, resume_fault_texts, standing_texts, venue_count_texts, venue_line_texts, venue_report_texts};
 
 use crate::end_report::EndReport;
-use event_sinks::{VenueGap, write_missing, write_venue_gaps};
+use event_sinks::{VenueGap, write_venue_gaps};
 use feed_types::{MissingRange, VenueId};
 use itch_book::BookFault;
 use normalising::{NormaliseStop, Normalised, PacketCounts, VenueReport};
+use run_notes::{write_book_fault, write_unquoted};
+use run_settings::VenueNames;
 use text_out::{TextOut, write_number, write_stderr};
 use venue_normaliser::{NormaliserFault, ResumeFault};
 
@@ -22,22 +26,13 @@ fn write_line<E: TextOut>(venue: VenueId, text: &str, errors: &mut E)
     write_stderr(text, errors);
 }
 
-/// Writes which messages are missing of a venue, and that it is quoted no more.
-fn write_given_up<E: TextOut>(gap: &VenueGap, errors: &mut E)
-    ensures { SaysEach (writing_of E.TextOut) (given_up_texts gap.now) errors.old errors.new }
-{
-    write_line(gap.venue, " lacks ", errors);
-    write_missing(gap.messages, errors);
-    write_stderr(", and is quoted no more\n", errors);
-}
-
 /// Writes the gaps that were given up.
 fn write_gaps<E: TextOut>(gaps: &[VenueGap], errors: &mut E)
     ensures { SaysEach (writing_of E.TextOut)
-        (flat_map given_up_texts gaps.now) errors.old errors.new }
+        (flat_map (unquoted_texts Numbers) gaps.now) errors.old errors.new }
 {
     for gap in gaps {
-        write_given_up(gap, errors);
+        write_unquoted(&VenueNames::Numbers, gap, errors);
     }
 }
 
@@ -107,23 +102,17 @@ fn write_reports<E: TextOut>(reports: &[VenueReport], errors: &mut E)
 }
 
 /// Writes why a book ended the run.
-fn write_book_fault<E: TextOut>(venue: VenueId, fault: BookFault, errors: &mut E)
+fn write_book_stop<E: TextOut>(venue: VenueId, fault: BookFault, errors: &mut E)
     ensures { SaysEach (writing_of E.TextOut) (book_stop_texts venue fault) errors.old errors.new }
 {
     match fault {
         BookFault::NoMemory => write_stderr("nbbo: no memory\n", errors),
-        BookFault::TooManyOrders => {
-            write_line(venue, " has more live orders than --orders\n", errors)
+        BookFault::TooManyOrders
+        | BookFault::TooManyShares
+        | BookFault::TooManySymbols
+        | BookFault::DuplicateSymbol => {
+            write_book_fault(&VenueNames::Numbers, venue, fault, errors)
         }
-        BookFault::TooManyShares => {
-            write_line(
-                venue,
-                " would show more than 2^63 shares at a price\n",
-                errors,
-            )
-        }
-        BookFault::TooManySymbols => write_line(venue, " has too many symbols\n", errors),
-        BookFault::DuplicateSymbol => write_line(venue, " has a symbol twice\n", errors),
     }
 }
 
@@ -133,7 +122,7 @@ fn write_fault<E: TextOut>(fault: NormaliserFault, errors: &mut E)
 {
     match fault {
         NormaliserFault::BadWindow => write_stderr("nbbo: bad window\n", errors),
-        NormaliserFault::Book(fault) => write_book_fault(VenueId::at(0), fault, errors),
+        NormaliserFault::Book(fault) => write_book_stop(VenueId::at(0), fault, errors),
     }
 }
 
@@ -143,7 +132,7 @@ fn write_resume_fault<E: TextOut>(venue: VenueId, fault: ResumeFault, errors: &m
         (resume_fault_texts venue fault) errors.old errors.new }
 {
     match fault {
-        ResumeFault::Book(fault) => write_book_fault(venue, fault, errors),
+        ResumeFault::Book(fault) => write_book_stop(venue, fault, errors),
         ResumeFault::TooFewNumbers => write_line(
             venue,
             ": its snapshot shows more than the messages before its number can\n",
@@ -166,7 +155,7 @@ fn write_book_end<F: EndReport, E: TextOut>(
         errors.old errors.new }
 {
     format.write_end_report(&[], &Ok(()), errors);
-    write_book_fault(venue, fault, errors);
+    write_book_stop(venue, fault, errors);
 }
 
 /// Writes what is to be said of an outcome, and of what was read.

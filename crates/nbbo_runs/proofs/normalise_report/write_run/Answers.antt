@@ -4,8 +4,10 @@ use Rattle.text_out.specs.Members.{writing_of}
 use Rattle.text_out.specs.StandardError.{SaysEach}
 use Rattle.text_out.specs.laws.SaidTexts.{says_each}
 use Rattle.event_sinks.specs.declared.venue_gap.VenueGap.{VenueGap}
+use Rattle.run_notes.specs.ItchNotes.{unquoted_texts}
+use Rattle.run_settings.specs.declared.venue_names.VenueNames.TheVariants.{Numbers}
 use Rattle.normalising.specs.declared.venue_report.VenueReport.{VenueReport}
-use Rattle.nbbo_runs.specs.NormaliseReports.{given_up_texts, normalise_end_texts, venue_report_texts}
+use Rattle.nbbo_runs.specs.NormaliseReports.{normalise_end_texts, venue_report_texts}
 use Rattle.nbbo_runs.proofs.normalise_report.write_run.Goals as goal
 
 pub returns : goal.returns
@@ -19,9 +21,9 @@ returns g c =
     let reported = c.write_reports.new.errors in
     let end = c.write_end.new.errors in
     let last = normalise_end_texts g.F.EndReport.end_texts c.args.format.now run.outcome in
-    says_each w (flat_map given_up_texts gaps) (flat_map venue_report_texts reports ++ last)
+    says_each w (flat_map (unquoted_texts Numbers) gaps) (flat_map venue_report_texts reports ++ last)
     start given_up end
-    (subst (λ (l : List VenueGap). SaysEach w (flat_map given_up_texts l) start given_up)
+    (subst (λ (l : List VenueGap). SaysEach w (flat_map (unquoted_texts Numbers) l) start given_up)
     c.as_slice.ensures.value c.write_gaps.ensures)
     (says_each w (flat_map venue_report_texts reports) last given_up reported end
     (subst (λ (l : List VenueReport). SaysEach w (flat_map venue_report_texts l) given_up reported)
