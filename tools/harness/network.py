@@ -5,7 +5,6 @@ import ctypes
 import os
 import socket
 import subprocess
-import sys
 import time
 from collections.abc import Iterator, Sequence
 from pathlib import Path
@@ -103,8 +102,3 @@ class Network:
             out = socket.socket(socket.AF_INET, socket.SOCK_DGRAM)
             out.setsockopt(socket.IPPROTO_IP, socket.IP_MULTICAST_IF, socket.inet_aton(OTHER_ADDRESS))
         return out
-
-
-def run_apart(file: str, words: Sequence[str]) -> int:
-    """Runs this script again in a network namespace of its own, with these words, and returns its status."""
-    return subprocess.run([*apart(), sys.executable, file, *words], check=False).returncode

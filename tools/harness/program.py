@@ -94,6 +94,14 @@ def feed(inlet: int, pieces: Iterable[bytes]) -> None:
 
 
 def finish(passed: int, failed: int) -> NoReturn:
-    """Prints the last line of a part of ./test, and ends with its status."""
+    """Prints the last line of a part of ./test, and ends with its status. A part that has tried nothing has failed."""
+    failed = failed or int(passed == 0)
     print(f'{passed} passed, {failed} failed')
     sys.exit(1 if failed else 0)
+
+
+def finish_without(tool: str, part: str, outcome: str) -> NoReturn:
+    """Ends a part of ./test that tries nothing for want of a tool, and says so: ./test takes no other one without a test."""
+    print(f'{part}: there is no {tool}, so {outcome}')
+    print('0 passed, 0 failed')
+    sys.exit(0)
