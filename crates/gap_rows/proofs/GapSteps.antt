@@ -1,5 +1,5 @@
 -- What a maker of rows of gaps makes of one event.
-use Rattle.std.proofs.Common.{◌≡◌, ◌<◌, ◌≤◌, ℕ, List, [], ◌∷◌, ◌++◌, length, arith, append-nil, ap, refl, sym, subst, Result, Ok, Err, Option, None, Some}
+use Rattle.std.proofs.Common.{◌≡◌, ◌<◌, ◌≤◌, ℕ, List, [], ◌∷◌, ◌++◌, length, arith, append-nil, ap, ◌∙◌, refl, sym, subst, Result, Ok, Err, Option, None, Some}
 use Rattle.std.specs.Prelude.{OnErr, OnOk}
 use Rattle.std.proofs.lemmas.Bool.Decides.{nat_tests}
 use Rattle.run_settings.specs.declared.formats.RowFormat.{RowFormat}
@@ -44,6 +44,16 @@ takes_one format e old new gaps text ends is = record {
   follow = record { none = refl; same = refl };
   text_is = sym (append-nil text);
 }
+
+-- one event, of which the gaps that it ended are written with its venue
+pub takes_of : (format : RowFormat) (e : TimedEvent) (venue : ℕ) (old new : List VenueGaps)
+    (gaps : List EndedGap) → EndsIn e (one_of (length old) (venue_in e.event)) old new gaps
+    → ((n : ℕ) → venue_in e.event ≡ Some n → venue ≡ n) → shown_in e.event ≡ venue_in e.event
+    → TakesEach format (e ∷ []) old (gap_rows_text format venue gaps) new
+takes_of format e venue old new gaps ends is shown =
+    takes_one format e old new gaps (gap_rows_text format venue gaps) ends
+    (rows_are format e (venue_in e.event) (length old) venue old new gaps is ends
+    ∙ ap (λ (o : Option ℕ). rows_in format o gaps) (sym shown))
 
 module _ {W : Type 0} (adds : W → List ℕ → W → Type 0) (failures : W → ℕ) where
   pub made : {T E : Type 0} (r : Result T E) (old new : GapMaker) (e : TimedEvent)

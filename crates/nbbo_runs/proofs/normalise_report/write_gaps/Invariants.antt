@@ -6,4 +6,5 @@ use Rattle.nbbo_runs.proofs.normalise_report.write_gaps.Given as goal
 
 abbrev pub invariant-loop-gap : goal.invariant-loop-gap
 invariant-loop-gap g l =
-    SaysRest (writing_of g.E.TextOut) (unquoted_texts Numbers) l.gaps l.gap-index l.fn.errors l.errors
+    SaysRest (writing_of g.E.TextOut) (unquoted_texts Numbers) l.gaps l.gap-index l.fn.errors
+    l.errors

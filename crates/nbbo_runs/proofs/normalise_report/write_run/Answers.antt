@@ -21,7 +21,8 @@ returns g c =
     let reported = c.write_reports.new.errors in
     let end = c.write_end.new.errors in
     let last = normalise_end_texts g.F.EndReport.end_texts c.args.format.now run.outcome in
-    says_each w (flat_map (unquoted_texts Numbers) gaps) (flat_map venue_report_texts reports ++ last)
+    says_each w (flat_map (unquoted_texts Numbers) gaps)
+    (flat_map venue_report_texts reports ++ last)
     start given_up end
     (subst (λ (l : List VenueGap). SaysEach w (flat_map (unquoted_texts Numbers) l) start given_up)
     c.as_slice.ensures.value c.write_gaps.ensures)
