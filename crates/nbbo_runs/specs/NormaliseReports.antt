@@ -38,7 +38,7 @@ venue_count_texts venue label count =
 -- that the packets begin with this project's own messages, where some do and none with one of ITCH
 abbrev pub own_messages_texts : (venue : ℕ) → PacketCounts → List (List ℕ)
 own_messages_texts venue counts =
-    if (counts.itch == 0) && not (counts.own == 0)
+    if not counts.has_itch && counts.has_own
     then venue_line_texts venue
     (codes " looks like own messages, which nbbo replay reads as they are\n")
     else []

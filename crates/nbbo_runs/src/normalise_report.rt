@@ -65,7 +65,7 @@ fn write_own_messages<E: TextOut>(venue: VenueId, counts: &PacketCounts, errors:
     ensures { SaysEach (writing_of E.TextOut)
         (own_messages_texts venue counts.now) errors.old errors.new }
 {
-    if counts.itch == 0 && counts.own != 0 {
+    if !counts.has_itch && counts.has_own {
         write_line(
             venue,
             " looks like own messages, which nbbo replay reads as they are\n",

@@ -287,7 +287,7 @@ impl NormalisedVenue {
             output.old.page.page output.new.page.page result }
         ensures form { output.new.page.form ≡ output.old.page.form }
     {
-        self.counts.count_packet(packet);
+        self.counts.note_payload(packet);
         let answer = self.normaliser.take(line, packet, &mut self.ready)?;
         self.counts.count_answer(&answer);
         self.write_more(is_heartbeat(&answer), time, output, writer)

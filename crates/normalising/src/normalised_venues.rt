@@ -17,7 +17,7 @@ use crate::venue_stop::VenueStop;
 use capture_records::Record;
 use capture_writing::CaptureTime;
 use event_sinks::{SinkStop, VenueGap};
-use feed_types::{LineId, SessionName, VenueId};
+use feed_types::{LineId, SessionName, VenueId, is_same_name};
 use itch_book::BookFault;
 use mold_packet::{Packet, read_packet};
 use run_settings::SkipRule;
@@ -414,7 +414,7 @@ impl<'a> NormalisedVenues<'a> {
     {
         for (place, next) in self.settings.next_sessions.iter().enumerate() {
             if next.venue == venue && !self.has_begun(place) {
-                if next.name == session {
+                if is_same_name(&next.name, &session) {
                     return Some(place);
                 }
                 return None;
@@ -436,7 +436,7 @@ impl<'a> NormalisedVenues<'a> {
         ensures same { IsSameRun self.old self.new }
     {
         let session = packet.session();
-        if self.venues[venue.index()].session() == session {
+        if is_same_name(&self.venues[venue.index()].session(), &session) {
             return Ok(());
         }
         let Some(place) = self.next_named(venue, session) else {

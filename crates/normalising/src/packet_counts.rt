@@ -9,10 +9,10 @@ use quote_payload::read_item;
 /// The counts of what came on a venue's lines.
 #[derive(Clone, Copy, Debug, Default, PartialEq, Eq)]
 pub struct PacketCounts {
-    /// How many packets began with a message that says something of orders.
-    pub itch: u64,
-    /// How many packets began with one of this project's own messages.
-    pub own: u64,
+    /// Whether a packet began with a message that says something of orders.
+    pub has_itch: bool,
+    /// Whether one began with one of this project's own messages before that.
+    pub has_own: bool,
     /// How many packets were refused.
     pub refused: u64,
     /// How many datagrams are no packet.
@@ -20,17 +20,17 @@ pub struct PacketCounts {
 }
 
 impl PacketCounts {
-    /// Counts a packet by its first message.
-    pub(crate) fn count_packet(&mut self, packet: &Packet<'_>) {
+    /// Notes which payload a packet's first message is of, until one is of ITCH.
+    pub(crate) fn note_payload(&mut self, packet: &Packet<'_>) {
+        if self.has_itch {
+            return;
+        }
         let mut messages = packet.messages();
         let Some(first) = messages.next() else {
             return;
         };
-        if !matches!(read_event(first), OrderEvent::Other) {
-            self.itch = self.itch.saturating_add(1);
-        } else if !matches!(read_item(first), Item::Other) {
-            self.own = self.own.saturating_add(1);
-        }
+        self.has_itch = !matches!(read_event(first), OrderEvent::Other);
+        self.has_own = self.has_own || !matches!(read_item(first), Item::Other);
     }
 
     /// Counts a packet that was refused.

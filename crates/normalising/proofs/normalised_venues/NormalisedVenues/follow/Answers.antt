@@ -6,8 +6,8 @@ use Rattle.normalising.specs.Normalised.{IsPacketOfName}
 use Rattle.normalising.proofs.Venues.{answer_first, first_none, first_noted, put_in_first}
 use Rattle.normalising.proofs.normalised_venues.NormalisedVenues.follow.Goals as goal
 
-pub returns-then-eq-clause-puts_in : goal.returns-then-eq-clause-puts_in
-returns-then-eq-clause-puts_in g c = λ r is. first_none
+pub returns-then-is_same_name-clause-puts_in : goal.returns-then-is_same_name-clause-puts_in
+returns-then-is_same_name-clause-puts_in g c = λ r is. first_none
     (writing_of g.W.TextOut) g.met.W.TextOut.adds_none r c.args.self.now c.args.writer.now (tt {0})
 
 pub returns-in_default-clause-puts_in : goal.returns-in_default-clause-puts_in
