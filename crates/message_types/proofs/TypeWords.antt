@@ -1,87 +1,22 @@
 -- The words of types are short.
-use Rattle.std.proofs.Common.{◌≤◌, ℕ, zero, suc, List, [], ◌∷◌, length, arith}
-use Rattle.std.specs.Prelude.{codes, slice_index_or}
+use Rattle.std.proofs.Common.{◌≡◌, ◌≤◌, ◌&&◌, ℕ, zero, suc, Bool, true, List, [], ◌∷◌, length, refl, arith}
+use Rattle.std.specs.Prelude.{nat_le, slice_index_or}
+use Rattle.std.proofs.lemmas.Bool.{and_parts}
+use Rattle.std.proofs.lemmas.Bool.Decides.{nat_tests}
 use Rattle.message_types.specs.Types.{type_word, type_words}
 
-abbrev AllShort : List (List ℕ) → Type 0
-AllShort [] = Unit {0}
-AllShort (word ∷ words) = (length word ≤ 40) × AllShort words
+abbrev are_short : List (List ℕ) → Bool
+are_short [] = true
+are_short (word ∷ words) = nat_le (length word) 40 && are_short words
 
-short_at : (words : List (List ℕ)) → AllShort words → (place : ℕ)
+short_at : (words : List (List ℕ)) → are_short words ≡ true → (place : ℕ)
     → length (slice_index_or words place []) ≤ 40
 short_at [] short place = omega arith
-short_at (word ∷ words) short zero = short.0
-short_at (word ∷ words) short (suc place) = short_at words short.1 place
-
-letter : (c : ℕ) → length (c ∷ []) ≤ 40
-letter c = omega arith
-
-all_short : AllShort type_words
-all_short =
-    let last : length (codes "other") ≤ 40 = omega arith in (
-      letter 65,
-      (
-        letter 70,
-        (
-          letter 69,
-          (
-            letter 67,
-            (
-              letter 88,
-              (
-                letter 68,
-                (
-                  letter 85,
-                  (
-                    letter 82,
-                    (
-                      letter 72,
-                      (
-                        letter 104,
-                        (
-                          letter 83,
-                          (
-                            letter 89,
-                            (
-                              letter 76,
-                              (
-                                letter 86,
-                                (
-                                  letter 87,
-                                  (
-                                    letter 75,
-                                    (
-                                      letter 74,
-                                      (
-                                        letter 80,
-                                        (
-                                          letter 81,
-                                          (
-                                            letter 66,
-                                            (
-                                              letter 73,
-                                              (letter 78, (letter 79, (last, tt))),
-                                            ),
-                                          ),
-                                        ),
-                                      ),
-                                    ),
-                                  ),
-                                ),
-                              ),
-                            ),
-                          ),
-                        ),
-                      ),
-                    ),
-                  ),
-                ),
-              ),
-            ),
-          ),
-        ),
-      ),
-    )
+short_at (word ∷ words) short zero =
+    let first = (and_parts (nat_le (length word) 40) (are_short words) short).0 in
+    grind (arith, nat_tests, first)
+short_at (word ∷ words) short (suc place) =
+    short_at words (and_parts (nat_le (length word) 40) (are_short words) short).1 place
 
 pub words_short : (place : ℕ) → length (type_word place) ≤ 40
-words_short place = short_at type_words all_short place
+words_short place = short_at type_words refl place
