@@ -13,7 +13,7 @@ use Rattle.feed_text.specs.Renewing.{BeginsNextSession, BeginsNone, IsNextName, 
 use Rattle.feed_text.specs.RenewingVenues.{BeginsAtVenue, RenewsAtVenue, RenewsOne}
 use Rattle.feed_text.specs.ReplayStates.{SinkTaking, ReplayState}
 use Rattle.run_settings.specs.NextSessions.{names_after}
-use Rattle.feed_text.specs.laws.Lists.{same_set}
+use Rattle.feed_types.specs.ListLaws.{same_set}
 use Rattle.feed_text.proofs.Telling.{emits_next, follow_set, history_at}
 
 -- the name that is found is the next one

@@ -1,11 +1,11 @@
 -- What is given up: nothing that has come, so the skip is made.
-use Rattle.std.proofs.Common.{◌≡◌, inl, inr, ℕ, zero, suc, ◌+◌, ◌-◌, ◌^◌, ◌<◌, ◌≤◌, Bool, true, false, cond, List, length, get_or, refl, sym, ap, ◌∙◌, subst, arith, Some, None, Option}
-use Rattle.std.specs.Prelude.{Result, Ok, ◌==◌, min, is_some, is_none, count_by}
+use Rattle.std.proofs.Common.{◌≡◌, inl, inr, ℕ, zero, suc, ◌+◌, ◌-◌, ◌^◌, ◌<◌, ◌≤◌, Bool, true, false, List, length, get_or, refl, sym, ap, ◌∙◌, subst, arith, Some, None, Option}
+use Rattle.std.specs.Prelude.{Result, Ok, ◌==◌, min, is_none}
 use Rattle.std.specs.Option.{option_map_or}
 use Rattle.std.specs.List.{range_with_len}
-use Rattle.std.proofs.lemmas.Bool.{cases_Bool, cases_lt, cases_eq, false≢true}
+use Rattle.std.proofs.lemmas.Bool.{cases_Bool, false≢true}
 use Rattle.std.proofs.lemmas.Bool.Decides.{nat_tests}
-use Rattle.std.proofs.lemmas.List.Sums.{prefix_len-le-length, prefix_len_passes, sum_by-cons}
+use Rattle.std.proofs.lemmas.List.Sums.{prefix_len-le-length, prefix_len_passes}
 use Rattle.std.proofs.lemmas.List.FromFn.{length-range_with_len, get_or-range_with_len}
 use Rattle.mold_packet.specs.declared.packet.Kind.{Kind}
 use Rattle.mold_packet.specs.declared.packet.Kind.TheVariants as kinds
@@ -13,13 +13,13 @@ use Rattle.mold_packet.specs.Content.{Content, IsContent, KindFits, last_number}
 use Rattle.line_arbiter.specs.declared.outcome.Outcome.{Outcome}
 use Rattle.line_arbiter.specs.declared.outcome.Outcome.TheVariants.{Ahead, Ended, Heartbeat, Taken}
 use Rattle.line_arbiter.specs.declared.faults.SkipFault.{SkipFault}
-use Rattle.line_arbiter.specs.Packets.{Input, carried, end_of, top_of, known_of}
+use Rattle.line_arbiter.specs.Packets.{Input, carried, end_of, known_of}
 use Rattle.mold_packet.specs.declared.request.Request.{Request}
-use Rattle.line_arbiter.specs.Streams.{end_at, front_of, gap_of, held_count, missing_count}
+use Rattle.line_arbiter.specs.Streams.{front_of, gap_of, missing_count}
 use Rattle.line_arbiter.specs.Histories.{History}
 use Rattle.line_arbiter.specs.Outcomes.{IsBefore, IsOutcome, ToKind}
 use Rattle.line_arbiter.specs.Skips.{IsSkip, MaySkip}
-use Rattle.line_arbiter.specs.laws.Fronts.{carried_above, none_is}
+use Rattle.line_arbiter.specs.laws.Held.{no_end, none_held}
 use Rattle.line_arbiter.specs.laws.SkipAnswers.{one_skip}
 use Rattle.run_settings.specs.declared.skip_rule.SkipRule.{SkipRule}
 use Rattle.run_settings.specs.declared.skip_rule.SkipRule.TheVariants.{Never, Join, Gaps, After}
@@ -45,42 +45,6 @@ ahead_is window h p (inr x) = ahead_kind p.kind window (last_sent h) h.present.p
 
 pub has_messages : (p : Content) → IsContent p → p.kind ≡ kinds.Messages → 1 ≤ length p.messages
 has_messages p c is = (subst (λ (k : Kind). KindFits k p.messages) is c.fits).0
-
-abbrev one_if : Bool → ℕ
-one_if b = cond b 1 0
-
-one_counted : (b : Bool) → one_if b ≡ 0 → b ≡ false
-one_counted true e = absurd (omega arith)
-one_counted false e = refl
-
--- where a range counts nothing, no number of it counts
-count_nothing : (q : ℕ → Bool) (a n m : ℕ) → count_by q (range_with_len a n) ≡ 0 → a ≤ m
-    → m < a + n → q m ≡ false
-count_nothing q a zero m none least most = absurd (omega arith)
-count_nothing q a (suc n) m none least most =
-    let all : count_by q (range_with_len a (suc n)) ≡ one_if (q a) + count_by q
-    (range_with_len (a + 1) n) = sum_by-cons (λ y. one_if (q y)) a (range_with_len (a + 1) n) in
-    elim (cases_eq a m) [
-      | inl same ↦ let first = one_counted (q a) (omega arith) in ap q (sym same) ∙ first
-      | inr other ↦ count_nothing q (a + 1) n m (omega arith) (omega arith) (omega arith)
-    ]
-
--- nothing is held past the last item, so nothing past it has come
-pub none_held : (packets : List Input) (sent m : ℕ) → held_count sent packets ≡ 0 → sent < m
-    → carried packets m ≡ None
-none_held packets sent m none past = elim (cases_lt (top_of packets) m) [
-  | inl above ↦ carried_above packets m above
-  | inr within ↦ none_is (carried packets m) (count_nothing (λ k. is_some (carried packets k))
-      (sent + 1) (top_of packets - sent) m none (omega arith) (omega arith))
-]
-
-no_end : (end : Option ℕ) (n : ℕ) → ((e : ℕ) → end ≡ Some e → n < e) → length (end_at end n) ≡ 0
-no_end None n late = refl
-no_end (Some e) n late = elim (cases_Bool (e == n)) [
-  | inl same ↦ let is : e ≡ n = grind (arith, nat_tests) in let past = late e refl
-      in absurd (omega arith)
-  | inr other ↦ rw other refl
-]
 
 none_missing : {X : Type 0} (o : Option X) → is_none o ≡ true → o ≡ None
 none_missing None e = refl

@@ -13,8 +13,7 @@ use Rattle.feed_text.specs.Tellings.{last_told, lasts_told}
 use Rattle.feed_text.specs.ReplayStates.{SinkTaking, ReplayState, EmitsInto}
 use Rattle.feed_text.specs.ReplayEvents.{self_help_declared}
 use Rattle.feed_text.specs.Following.{ReplayVenue, VenueList, Follows, FollowAll, EmitsNext, EmitsOne, TakesRecord}
-use Rattle.feed_types.specs.ListLaws.{get_within}
-use Rattle.feed_text.specs.laws.Lists.{get_set_same, get_set_other, same_or_not, same_set}
+use Rattle.feed_types.specs.ListLaws.{get_within, get_set_same, get_set_other, same_or_not, same_set}
 use Rattle.event_sinks.specs.declared.venue_gap.VenueGap.{VenueGap}
 use Rattle.feed_text.specs.Lacks.{lack_of, lacks_of}
 use Rattle.feed_text.proofs.VenueSteps.{on_ok}

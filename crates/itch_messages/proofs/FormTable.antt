@@ -1,7 +1,7 @@
 -- What holds of each form of a table holds of a message that has one of them.
-use Rattle.std.proofs.Common.{◌≡◌, ℕ, Bool, true, false, ◌&&◌, ◌||◌, List, [], ◌∷◌, ◌++◌, length, sym, subst, refl, inl, inr, eqb-true}
+use Rattle.std.proofs.Common.{◌≡◌, ℕ, Bool, true, false, ◌&&◌, ◌||◌, List, [], ◌∷◌, ◌++◌, length, map, sym, subst, refl, inl, inr, eqb-true}
 use Rattle.std.specs.Prelude.{if◌then◌else◌, ◌==◌, nat_le}
-use Rattle.std.specs.List.{AllByRecursion, list_any}
+use Rattle.std.specs.List.{list_any}
 use Rattle.std.proofs.lemmas.Bool.{and_parts, or_cases}
 use Rattle.feed_types.specs.Symbols.{is_symbol_field}
 use Rattle.feed_types.specs.declared.item.Item.{Item}
@@ -21,15 +21,17 @@ is_form-same P wanted size kind len h p =
 none_is : false ≡ true → ⊥
 none_is e = cc
 
-pub of_each_form : (P : ℕ → ℕ → Type 0) (forms : List (ℕ × ℕ)) (kind len : ℕ)
-    → AllByRecursion (λ (form : ℕ × ℕ). P form.0 form.1) forms
-    → list_any (λ (form : ℕ × ℕ). is_form form.0 form.1 kind len) forms ≡ true → P kind len
-of_each_form P [] kind len all h = absurd (none_is h)
-of_each_form P (form ∷ forms) kind len all h =
+pub of_each_form : {X : Type 0} (made : ℕ → ℕ → X) (x : X) (forms : List (ℕ × ℕ)) (kind len : ℕ)
+    → map (λ (form : ℕ × ℕ). made form.0 form.1) forms ≡ map (λ (form : ℕ × ℕ). x) forms
+    → list_any (λ (form : ℕ × ℕ). is_form form.0 form.1 kind len) forms ≡ true → made kind len ≡ x
+of_each_form made x [] kind len all h = absurd (none_is h)
+of_each_form made x (form ∷ forms) kind len all h =
+    let first : made form.0 form.1 ≡ x = cc in
+    let others : map (λ (f : ℕ × ℕ). made f.0 f.1) forms ≡ map (λ (f : ℕ × ℕ). x) forms = cc in
     elim (or_cases (is_form form.0 form.1 kind len)
     (list_any (λ (f : ℕ × ℕ). is_form f.0 f.1 kind len) forms) h) [
-      | inl here ↦ is_form-same P form.0 form.1 kind len here all.0
-      | inr later ↦ of_each_form P forms kind len all.1 later
+      | inl here ↦ is_form-same (λ (k l : ℕ). made k l ≡ x) form.0 form.1 kind len here first
+      | inr later ↦ of_each_form made x forms kind len others later
     ]
 
 -- the item of a message of this type and length
@@ -47,120 +49,12 @@ pub no_quotation : (message : List ℕ)
     → is_one_of (telling_forms ++ silent_forms) message ≡ true → item_of message ≡ item.Other
 unfolding item_of
 no_quotation message h =
-    of_each_form (λ (kind len : ℕ). item_by kind len message ≡ item.Other)
-    (telling_forms ++ silent_forms) (type_at message) (length message) (
-      refl,
-      (
-        refl,
-        (
-          refl,
-          (
-            refl,
-            (
-              refl,
-              (
-                refl,
-                (
-                  refl,
-                  (
-                    refl,
-                    (
-                      refl,
-                      (
-                        refl,
-                        (
-                          refl,
-                          (
-                            refl,
-                            (
-                              refl,
-                              (
-                                refl,
-                                (
-                                  refl,
-                                  (
-                                    refl,
-                                    (
-                                      refl,
-                                      (
-                                        refl,
-                                        (
-                                          refl,
-                                          (
-                                            refl,
-                                            (
-                                              refl,
-                                              (
-                                                refl,
-                                                (
-                                                  refl,
-                                                  tt,
-                                                ),
-                                              ),
-                                            ),
-                                          ),
-                                        ),
-                                      ),
-                                    ),
-                                  ),
-                                ),
-                              ),
-                            ),
-                          ),
-                        ),
-                      ),
-                    ),
-                  ),
-                ),
-              ),
-            ),
-          ),
-        ),
-      ),
-    ) h
+    of_each_form (λ (kind len : ℕ). item_by kind len message) item.Other
+    (telling_forms ++ silent_forms) (type_at message) (length message) refl h
 
 pub silent_event : (message : List ℕ) → is_one_of silent_forms message ≡ true
     → order_event_of message ≡ event.Other
 unfolding order_event_of
 silent_event message h =
-    of_each_form (λ (kind len : ℕ). event_by kind len message ≡ event.Other) silent_forms
-    (type_at message) (length message) (
-      refl,
-      (
-        refl,
-        (
-          refl,
-          (
-            refl,
-            (
-              refl,
-              (
-                refl,
-                (
-                  refl,
-                  (
-                    refl,
-                    (
-                      refl,
-                      (
-                        refl,
-                        (
-                          refl,
-                          (
-                            refl,
-                            (
-                              refl,
-                              tt,
-                            ),
-                          ),
-                        ),
-                      ),
-                    ),
-                  ),
-                ),
-              ),
-            ),
-          ),
-        ),
-      ),
-    ) h
+    of_each_form (λ (kind len : ℕ). event_by kind len message) event.Other silent_forms
+    (type_at message) (length message) refl h

@@ -19,6 +19,7 @@ pub mod Deciding
 pub mod OneOutcome
 pub mod EveryAnswer
 pub mod SkipAnswers
+pub mod Held
 pub mod Histories
 pub mod AnsweredHistories
 pub mod FitsHistory

@@ -5,6 +5,7 @@ use Rattle.std.specs.Option.{option_to_list}
 use Rattle.std.proofs.lemmas.List.Sums.{sum_by-append}
 use Rattle.std.proofs.lemmas.Grind.{flat_map-append}
 use Rattle.std.specs.Prelude.{Bool, cond, max}
+use Rattle.feed_types.specs.ListLaws.{zip_both}
 use Rattle.packet_capture.specs.Captures.{PieceContent, frames_in, frames_of, list_of}
 use Rattle.packet_capture.specs.Frames.{FrameContent}
 use Rattle.run_settings.specs.declared.captured_line.CapturedLine.{CapturedLine}
@@ -93,14 +94,6 @@ latest_both : (latest : ℕ) (xs ys : List ℕ)
     → latest_after latest (xs ++ ys) ≡ latest_after (latest_after latest xs) ys
 latest_both latest [] ys = refl
 latest_both latest (x ∷ xs) ys = latest_both (max latest x) xs ys
-
-zip_both : {A B : Type 0} (R : A → B → Type 0) (xs ys : List A) (us vs : List B)
-    → AllZip R xs us → AllZip R ys vs
-    → AllZip R (xs ++ ys) (us ++ vs)
-zip_both R [] ys [] vs h k = k
-zip_both R [] ys (u ∷ us) vs h k = absurd h
-zip_both R (x ∷ xs) ys [] vs h k = absurd h
-zip_both R (x ∷ xs) ys (u ∷ us) vs h k = (h.0, zip_both R xs ys us vs h.1 k)
 
 times_both : (fs gs : List FrameContent) → times_of (fs ++ gs) ≡ times_of fs ++ times_of gs
 times_both fs gs = flat_map-append times_in fs gs

@@ -3,6 +3,7 @@ use Rattle.std.proofs.Common.{◌≡◌, ℕ, List, [], ◌∷◌, ◌++◌, dro
 use Rattle.std.specs.Prelude.{flat_map}
 use Rattle.std.specs.List.{AllZip}
 use Rattle.std.proofs.lemmas.Grind.{flat_map-append}
+use Rattle.feed_types.specs.ListLaws.{zip_both}
 use Rattle.packet_capture.specs.Captures.{Context, PieceContent, ArePieces, frames_in, frames_of}
 use Rattle.packet_capture.specs.Frames.{FrameContent}
 use Rattle.capture_records.specs.Formats.{TimedRecord}
@@ -27,13 +28,6 @@ pieces_append a b c bytes mid rest [] qs h k =
     (subst (λ (z : Context). ArePieces z mid qs c rest) h.0 k)
 pieces_append a b c bytes mid rest (p ∷ ps) qs h k =
     (h.0, h.1, pieces_append h.0 b c (drop p.len bytes) mid rest ps qs h.2 k)
-
-zip_both : {A B : Type 0} (R : A → B → Type 0) (xs ys : List A) (us vs : List B)
-    → AllZip R xs us → AllZip R ys vs → AllZip R (xs ++ ys) (us ++ vs)
-zip_both R [] ys [] vs h k = k
-zip_both R [] ys (u ∷ us) vs h k = absurd h
-zip_both R (x ∷ xs) ys [] vs h k = absurd h
-zip_both R (x ∷ xs) ys (u ∷ us) vs h k = (h.0, zip_both R xs ys us vs h.1 k)
 
 -- what was added, and then more
 added_both : {A B : Type 0} (f : A → List B) (a b c : List B) (xs ys : List A)

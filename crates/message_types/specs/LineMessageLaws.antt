@@ -1,8 +1,8 @@
 -- The laws of the messages that records bring.
 use Rattle.std.proofs.Common.{◌≡◌, ℕ, Bool, true, false, List, [], ◌∷◌, ◌++◌, append-nil, cond, refl, ◌∙◌}
 use Rattle.std.specs.Prelude.{Option}
-use Rattle.std.specs.List.{AllZip}
 use Rattle.std.proofs.lemmas.Grind.{flat_map-append}
+use Rattle.feed_types.specs.ListLaws.{zip_both}
 use Rattle.feed_types.specs.declared.line.LineId.{LineId}
 use Rattle.feed_types.specs.declared.line.LineId.TheVariants.{A}
 use Rattle.capture_records.specs.Capture.{datagram_record}
@@ -16,13 +16,6 @@ line_messages venue line messages = record { venue = venue; line = line; message
 -- none, where a record brings none
 abbrev pub no_messages : LineMessages
 no_messages = line_messages 0 A []
-
-zip_both : {A B : Type 0} (R : A → B → Type 0) (xs ys : List A) (us vs : List B)
-    → AllZip R xs us → AllZip R ys vs → AllZip R (xs ++ ys) (us ++ vs)
-zip_both R [] ys [] vs h k = k
-zip_both R [] ys (u ∷ us) vs h k = absurd h
-zip_both R (x ∷ xs) ys [] vs h k = absurd h
-zip_both R (x ∷ xs) ys (u ∷ us) vs h k = (h.0, zip_both R xs ys us vs h.1 k)
 
 -- some records, and then others
 pub brings_more : (rs qs : List TimedRecord) (some others : List LineMessages)

@@ -25,7 +25,7 @@ use Rattle.nbbo_book.specs.Changes.{is_same_best, is_same_national, change_of, c
 use Rattle.nbbo_book.specs.Contents.{SideFits, RowFits}
 use Rattle.nbbo_book.specs.Books.{venue_of}
 use Rattle.nbbo_book.specs.Ranks.{best_of_ranks, IsRankingOf}
-use Rattle.nbbo_book.specs.Rows.{may_at, row_quoted, row_rechecked, row_halted, row_after, row_after_item, row_change, told_where, national_at, helped_after, symbol_in, symbol_in_item, IsRowRanked}
+use Rattle.nbbo_book.specs.Rows.{may_at, row_quoted, row_rechecked, row_halted, row_ended, row_after, row_after_item, row_change, told_where, national_at, helped_after, symbol_in, symbol_in_item, IsRowRanked}
 use Rattle.nbbo_book.specs.Tables.{IsSide, IsRow, symbols_in_rows}
 use Rattle.nbbo_book.specs.VenueSides.{BookSide, venue_side_at, age_at}
 use Rattle.nbbo_book.specs.BookSides.{rank_at}
@@ -64,6 +64,26 @@ row_rechecked-is helped flags n v halted r below long others h = record {
   count = long;
 }
 
+-- an end of session or a skip takes what the venue quotes and its halts
+row_ended-is : (helped : List Bool) (n v : ℕ) (r : Row) → v < 16 → IsRow helped n r
+    → IsRow helped (n + 1) (row_ended v n r)
+row_ended-is helped n v r below h =
+    let may = may_at helped r.halted in
+    let more = may_at helped (set r.halted v false) in
+    let others : (w : ℕ) → nat_eq w v ≡ false
+    → more w ≡ may w = λ w e. ap (λ t. not (slice_index_or helped w false) && not t)
+    (set_off r.halted v w false false (apart_from v w e)) in
+    record {
+      bids = side_quoted-is Bid may more n (side_at Bid r) v None false below others
+          (ranked_nothing (more v) v)
+          (ranked_nothing (may v) v ∙ sym (ranked_nothing (more v) v))
+          (same_side_sound (venue_side_at r.bids.venue_sides v).quote None) h.bids;
+      offers = side_quoted-is Offer may more n (side_at Offer r) v None false below others
+          (ranked_nothing (more v) v) (ranked_nothing (may v) v ∙ sym (ranked_nothing (more v) v))
+          (same_side_sound (venue_side_at r.offers.venue_sides v).quote None) h.offers;
+      count = long_set r.halted v false ∙ h.count;
+    }
+
 item_is : (helped : List Bool) (n v : ℕ) (i : Item) (r : Row) → v < 16 → IsRow helped n r
     → IsRow helped (n + 1) (row_after_item helped n v i r)
 item_is helped n v (item.Quote q) r below h =
@@ -93,38 +113,8 @@ item_is helped n v (item.Halt s x) r below h =
       | false ↦ row_waits helped n r h
     ]
 item_is helped n v item.Other r below h = row_waits helped n r h
-item_is helped n v item.End r below h =
-    let may = may_at helped r.halted in
-    let more = may_at helped (set r.halted v false) in
-    let others : (w : ℕ) → nat_eq w v ≡ false
-    → more w ≡ may w = λ w e. ap (λ t. not (slice_index_or helped w false) && not t)
-    (set_off r.halted v w false false (apart_from v w e)) in
-    record {
-      bids = side_quoted-is Bid may more n (side_at Bid r) v None false below others
-          (ranked_nothing (more v) v)
-          (ranked_nothing (may v) v ∙ sym (ranked_nothing (more v) v))
-          (same_side_sound (venue_side_at r.bids.venue_sides v).quote None) h.bids;
-      offers = side_quoted-is Offer may more n (side_at Offer r) v None false below others
-          (ranked_nothing (more v) v) (ranked_nothing (may v) v ∙ sym (ranked_nothing (more v) v))
-          (same_side_sound (venue_side_at r.offers.venue_sides v).quote None) h.offers;
-      count = long_set r.halted v false ∙ h.count;
-    }
-item_is helped n v item.Skipped r below h =
-    let may = may_at helped r.halted in
-    let more = may_at helped (set r.halted v false) in
-    let others : (w : ℕ) → nat_eq w v ≡ false
-    → more w ≡ may w = λ w e. ap (λ t. not (slice_index_or helped w false) && not t)
-    (set_off r.halted v w false false (apart_from v w e)) in
-    record {
-      bids = side_quoted-is Bid may more n (side_at Bid r) v None false below others
-          (ranked_nothing (more v) v)
-          (ranked_nothing (may v) v ∙ sym (ranked_nothing (more v) v))
-          (same_side_sound (venue_side_at r.bids.venue_sides v).quote None) h.bids;
-      offers = side_quoted-is Offer may more n (side_at Offer r) v None false below others
-          (ranked_nothing (more v) v) (ranked_nothing (may v) v ∙ sym (ranked_nothing (more v) v))
-          (same_side_sound (venue_side_at r.offers.venue_sides v).quote None) h.offers;
-      count = long_set r.halted v false ∙ h.count;
-    }
+item_is helped n v item.End r below h = row_ended-is helped n v r below h
+item_is helped n v item.Skipped r below h = row_ended-is helped n v r below h
 
 -- what every book keeps of a symbol, after one more entry
 pub row_is : (helped : List Bool) (n : ℕ) (e : Entry) (r : Row) → venue_of e < 16 → IsRow helped n r

@@ -1,9 +1,9 @@
 -- The venues of a run: one of them takes a record, and the others stay.
-use Rattle.std.proofs.Common.{◌≡◌, ◌≢◌, ◌⊎◌, ℕ, zero, suc, ◌+◌, ◌<◌, Bool, true, false, List, [], ◌∷◌, ◌++◌, length, length-append, append-nil, refl, sym, ap, ap₂, subst, ◌∙◌, inl, inr, arith, Option, Some, None, Result, Ok, Err}
+use Rattle.std.proofs.Common.{◌≡◌, ◌⊎◌, ℕ, zero, suc, ◌+◌, ◌<◌, Bool, true, false, List, [], ◌∷◌, ◌++◌, length, length-append, append-nil, refl, sym, ap, ap₂, subst, ◌∙◌, inl, inr, arith, Option, Some, None, Result, Ok, Err}
 use Rattle.std.specs.Prelude.{⊤, nat_lt, slice_get, slice_set, if◌then◌else◌}
 use Rattle.std.proofs.Math.ListN.{length-set}
 use Rattle.std.proofs.lemmas.Option.{slice_get_within}
-use Rattle.feed_types.specs.ListLaws.{get_within}
+use Rattle.feed_types.specs.ListLaws.{get_within, get_set_same, get_set_other, same_or_not, same_set}
 use Rattle.feed_types.specs.declared.item.Numbered.{Numbered}
 use Rattle.feed_types.specs.declared.line.LineId.{LineId}
 use Rattle.mold_packet.specs.declared.fault.PacketFault.{PacketFault}
@@ -34,35 +34,6 @@ use Rattle.normalising.specs.declared.venue_stop.VenueStop.TheVariants.{Book, Si
 use Rattle.normalising.proofs.Steps.{all_none, all_one, runs_then}
 use Rattle.normalising.proofs.Taking.{wrote_longer}
 use Rattle.normalising.proofs.Venue.{follows_same, puts_nothing}
-
--- ---- places of a list
-
-pub get_set_same : {X : Type 0} (xs : List X) (i : ℕ) (x y : X)
-    → slice_get (slice_set xs i x) i ≡ Some y → y ≡ x
-get_set_same [] i x y e = absurd cc
-get_set_same (z ∷ xs) zero x y e = cc
-get_set_same (z ∷ xs) (suc i) x y e = get_set_same xs i x y e
-
-pub get_set_other : {X : Type 0} (xs : List X) (i j : ℕ) (x : X) → j ≢ i
-    → slice_get (slice_set xs i x) j ≡ slice_get xs j
-get_set_other [] i j x h = refl
-get_set_other (z ∷ xs) zero zero x h = absurd (h refl)
-get_set_other (z ∷ xs) zero (suc j) x h = refl
-get_set_other (z ∷ xs) (suc i) zero x h = refl
-get_set_other (z ∷ xs) (suc i) (suc j) x h = get_set_other xs i j x (λ e. h (omega arith))
-
-pub same_or_not : (j i : ℕ) → (j ≡ i) ⊎ (j ≢ i)
-same_or_not zero zero = inl refl
-same_or_not zero (suc i) = inr (λ e. absurd (omega arith))
-same_or_not (suc j) zero = inr (λ e. absurd (omega arith))
-same_or_not (suc j) (suc i) =
-    elim (same_or_not j i) [ inl e ↦ inl (ap suc e) | inr n ↦ inr (λ e. n (omega arith)) ]
-
-pub same_set : {X : Type 0} (xs : List X) (i : ℕ) (x : X) → slice_get xs i ≡ Some x
-    → slice_set xs i x ≡ xs
-same_set [] i x e = refl
-same_set (y ∷ xs) zero x e = cc
-same_set (y ∷ xs) (suc i) x e = ap (λ (ys : List _). y ∷ ys) (same_set xs i x e)
 
 -- ---- the venues follow their histories
 

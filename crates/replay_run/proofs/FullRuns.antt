@@ -35,7 +35,7 @@ use Rattle.capture_records.specs.Formats.{TimedRecord, what_of}
 use Rattle.event_sinks.specs.SinkEvents.{TimedEvent}
 use Rattle.feed_text.specs.Told.{IsToldToFull}
 use Rattle.feed_text.specs.VenueItems.{taken_by, items_taken}
-use Rattle.feed_text.specs.laws.Lists.{get_set_same, get_set_other, same_or_not}
+use Rattle.feed_types.specs.ListLaws.{get_set_same, get_set_other, same_or_not}
 use Rattle.feed_text.specs.laws.Entries.{entries_more}
 use Rattle.feed_text.specs.laws.Entries.{entries_grow}
 use Rattle.line_arbiter.specs.laws.AnsweredHistories.{IsAnsweredThroughout}

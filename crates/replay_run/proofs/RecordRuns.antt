@@ -32,7 +32,7 @@ use Rattle.feed_text.specs.ReplayEvents.{ReplayEvent, item_taken, entries_of}
 use Rattle.line_arbiter.specs.LastSent.{last_sent, stream_length}
 use Rattle.feed_text.specs.Emitted.{gap_emitted, EmitsFault, EmitsPacket, EmitsRenewal, EmitsSkip, EmitsSelfHelp, EmitsAt, EmitsRecord}
 use Rattle.line_arbiter.specs.laws.LastSent.{last_counted}
-use Rattle.feed_text.specs.laws.Lists.{same_set}
+use Rattle.feed_types.specs.ListLaws.{same_set}
 use Rattle.feed_text.specs.laws.Entries.{entries_more}
 use Rattle.feed_text.specs.VenueItems.{items_taken}
 use Rattle.line_arbiter.specs.laws.AnsweredHistories.{IsAnsweredThroughout}

@@ -1,12 +1,10 @@
 -- A session that may be joined: what the cursors of a cell show of it, that the skip is made, and
 -- that the packet isn't answered as an end that is too early.
-use Rattle.std.proofs.Common.{◌≡◌, inl, inr, ℕ, zero, suc, ◌+◌, ◌-◌, ◌<◌, ◌≤◌, Bool, true, false, cond, Option, List, [], ◌∷◌, ◌++◌, length, Some, None, IfSome, Result, Ok, Err, refl, sym, ap, subst, ◌∙◌, arith}
-use Rattle.std.specs.Prelude.{◌==◌, count_by, is_some, nat_lt, if◌then◌else◌}
-use Rattle.std.specs.List.{range_with_len}
+use Rattle.std.proofs.Common.{◌≡◌, inl, inr, ℕ, zero, suc, ◌+◌, ◌-◌, ◌<◌, ◌≤◌, Bool, true, false, Option, List, [], ◌∷◌, ◌++◌, length, Some, None, IfSome, Result, Ok, Err, refl, sym, ap, subst, ◌∙◌, arith}
+use Rattle.std.specs.Prelude.{nat_lt}
 use Rattle.std.specs.Option.{option_or}
-use Rattle.std.proofs.lemmas.Bool.{cases_Bool, cases_lt, cases_eq}
+use Rattle.std.proofs.lemmas.Bool.{cases_eq}
 use Rattle.std.proofs.lemmas.Bool.Decides.{nat_tests}
-use Rattle.std.proofs.lemmas.List.Sums.{sum_by-cons}
 use Rattle.feed_types.specs.declared.item.Item.{Item}
 use Rattle.feed_types.specs.declared.item.Item.TheVariants as items
 use Rattle.mold_packet.specs.declared.packet.Kind.{Kind}
@@ -21,14 +19,15 @@ use Rattle.line_arbiter.specs.declared.outcome.LineFault.{LineFault}
 use Rattle.line_arbiter.specs.declared.outcome.LineFault.TheVariants.{EndTooEarly, OtherSession}
 use Rattle.line_arbiter.specs.declared.faults.SkipFault.{SkipFault}
 use Rattle.line_arbiter.specs.Outcomes.{IsOutcome, ToKind}
-use Rattle.line_arbiter.specs.Packets.{Input, Skip, carried, end_of, top_of}
-use Rattle.line_arbiter.specs.Streams.{end_at, front_of, held_count}
+use Rattle.line_arbiter.specs.Packets.{Input, Skip, carried, end_of}
+use Rattle.line_arbiter.specs.Streams.{end_at, front_of}
 use Rattle.line_arbiter.specs.Fits.{Fits, cursors_of}
 use Rattle.line_arbiter.specs.Histories.{History}
 use Rattle.line_arbiter.specs.Skips.{AllSent, IsSkip, MaySkip}
 use Rattle.line_arbiter.specs.States.{State}
 use Rattle.line_arbiter.specs.laws.Bringing.{carried_skip}
-use Rattle.line_arbiter.specs.laws.Fronts.{carried_above, front_is, none_is, not_none, opens_most}
+use Rattle.line_arbiter.specs.laws.Fronts.{front_is, not_none, opens_most}
+use Rattle.line_arbiter.specs.laws.Held.{no_end, none_held}
 use Rattle.line_arbiter.specs.laws.Lengths.{length-stream}
 use Rattle.line_arbiter.specs.laws.SkipAnswers.{one_skip}
 use Rattle.venue_lines.specs.Cells.{CellState, CellFitsHistory, IsPossibleCall}
@@ -70,42 +69,6 @@ module _ (h : History) (sent : ℕ) (p : Content) (s : ArbiterStatus) (kind : Ki
 
 -- ---- the skip
 
-abbrev one_if : Bool → ℕ
-one_if b = cond b 1 0
-
-one_counted : (b : Bool) → one_if b ≡ 0 → b ≡ false
-one_counted true e = absurd (omega arith)
-one_counted false e = refl
-
--- where a range counts nothing, no number of it counts
-count_nothing : (q : ℕ → Bool) (a n m : ℕ) → count_by q (range_with_len a n) ≡ 0 → a ≤ m
-    → m < a + n → q m ≡ false
-count_nothing q a zero m none least most = absurd (omega arith)
-count_nothing q a (suc n) m none least most =
-    let all : count_by q (range_with_len a (suc n)) ≡ one_if (q a) + count_by q
-    (range_with_len (a + 1) n) = sum_by-cons (λ y. one_if (q y)) a (range_with_len (a + 1) n) in
-    elim (cases_eq a m) [
-      | inl same ↦ let first = one_counted (q a) (omega arith) in ap q (sym same) ∙ first
-      | inr other ↦ count_nothing q (a + 1) n m (omega arith) (omega arith) (omega arith)
-    ]
-
--- nothing is held past the last item, so nothing past it has come
-none_past : (packets : List Input) (sent m : ℕ) → held_count sent packets ≡ 0 → sent < m
-    → carried packets m ≡ None
-none_past packets sent m none past = elim (cases_lt (top_of packets) m) [
-  | inl above ↦ carried_above packets m above
-  | inr within ↦ none_is (carried packets m) (count_nothing (λ k. is_some (carried packets k))
-      (sent + 1) (top_of packets - sent) m none (omega arith) (omega arith))
-]
-
-no_end : (end : Option ℕ) (n : ℕ) → ((e : ℕ) → end ≡ Some e → n < e) → length (end_at end n) ≡ 0
-no_end None n late = refl
-no_end (Some e) n late = elim (cases_Bool (e == n)) [
-  | inl same ↦ let is : e ≡ n = grind (arith, nat_tests) in let past = late e refl
-      in absurd (omega arith)
-  | inr other ↦ rw other refl
-]
-
 -- what stays within an end ends after its number's message
 within_end : (end : Option ℕ) (kind : Kind) (number last : ℕ) → number ≤ last + 1
     → StaysWithin end kind number last → (e : ℕ) → end ≡ Some e → number ≤ e
@@ -141,7 +104,7 @@ module _ (s : State) (h : History) (p : Content) (fits : Fits s h.present.packet
   -- no message has come
   pub none_came : (m : ℕ) → 0 < m → carried came m ≡ None
   none_came m some =
-      let last = last_is.1 in none_past came s.sent m b.held (omega arith)
+      let last = last_is.1 in none_held came s.sent m b.held (omega arith)
 
   may_join : MaySkip came p.number
   may_join = record {

@@ -31,7 +31,7 @@ use Rattle.feed_text.specs.Emitted.{gap_event, gap_emitted, EmitsPacket, EmitsSk
 use Rattle.feed_text.specs.Texts.{EmitsAll}
 use Rattle.feed_text.specs.VenueItems.{taken_by, items_taken}
 use Rattle.line_arbiter.specs.laws.LastSent.{place_last}
-use Rattle.feed_text.specs.laws.Lists.{get_set_same, get_set_other, same_or_not}
+use Rattle.feed_types.specs.ListLaws.{get_set_same, get_set_other, same_or_not}
 
 -- ---- what came to a venue
 
