@@ -6,6 +6,7 @@ pub mod Gathering
 pub mod Lacks
 pub mod Looked
 pub mod Monitored
+pub mod Named
 pub mod NamedNext
 pub mod Noting
 pub mod Recorded

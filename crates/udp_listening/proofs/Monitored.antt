@@ -1,24 +1,23 @@
 -- What a run came to that was followed and monitored.
-use Rattle.std.proofs.Common.{◌≡◌, inl, inr, ◌∙◌, ℕ, List, [], ◌∷◌, Option, Some, None, ap, length, map, refl, subst, sym, arith}
-use Rattle.std.specs.Prelude.{true, IfOk, Result, Ok, Err, vec_len}
-use Rattle.feed_types.specs.declared.line.LineId.{LineId}
+use Rattle.std.proofs.Common.{◌≡◌, inl, inr, ◌∙◌, ℕ, List, [], ◌∷◌, Option, Some, None, length, map, refl, subst, sym, arith}
+use Rattle.std.specs.Prelude.{true, All, IfOk, Result, Ok, Err, vec_len}
+use Rattle.std.specs.declared.marker.Brand.{Brand}
+use Rattle.feed_types.specs.declared.genuine.Anything.{Anything}
 use Rattle.text_out.specs.Devices.{Writing}
 use Rattle.best_rows.specs.declared.style.RowStyle.{RowStyle}
 use Rattle.live_feed.specs.Lanes.{FeedLanes}
-use Rattle.live_feed.specs.declared.run.line.LineEnd.{LineEnd}
 use Rattle.live_feed.specs.declared.run.whole.FeedReport.{FeedReport}
 use Rattle.live_feed.specs.declared.run.whole.LineTask.{LineTask}
 use Rattle.live_feed.specs.declared.subscriber.logged.Logged.{Logged}
-use Rattle.live_feed.specs.run.Runs.{HasTaken, LineHasEnded, Pairwise}
-use Rattle.live_feed.specs.run.Wholes.{HasAttended, HasWatched, IsBegun, IsWholeRun, line_report, logs_with}
+use Rattle.live_feed.specs.run.Wholes.{HasAttended, HasWatched, IsBegun, IsWholeRun, logs_with}
 use Rattle.live_feed.specs.settle.Settlements.{IsSettlement, SettlementState}
 use Rattle.live_feed.specs.subscriber.Logs.{SubscriberLogState}
-use Rattle.live_feed.specs.venue.Seats.{SeatState, new_seat}
+use Rattle.udp_listening.specs.ItchEnds.{itch_venues}
 use Rattle.udp_listening.specs.Listening.{HasListenedOn, IsFollowing, IsUnprinted}
 use Rattle.udp_listening.specs.SettledNotices.{HasNoted, settled_forgotten, settled_log}
 use Rattle.udp_listening.specs.Monitors.{FollowsRows, HasMonitored}
 use Rattle.run_settings.specs.declared.listen_settings.ListenSettings.{ListenSettings}
-use Rattle.udp_listening.specs.Reports.{IsListened, IsReportOfFeed, IsReportOfRun, any_lines, reported_line, seat_line, task_line}
+use Rattle.udp_listening.specs.Reports.{IsLineOf, IsListened, IsReportOfFeed, IsReportOfRun, any_lines, line_brings, line_failures, task_line}
 use Rattle.run_watches.specs.RunLines.{watched_run}
 use Rattle.udp_listening.specs.Lines.{LineState, run_lines, venue_of_line}
 use Rattle.udp_listening.specs.NamedNext.{AreNextOf}
@@ -105,39 +104,13 @@ said_if_run telling before after (inl same) =
     (nothing_of_run telling (watched_run before.watches) before.errors)
 said_if_run telling before after (inr said) = said
 
--- the lines that have ended are those that were run
-pub lines_of : {G N : Type 0} (takes : SeatState → List (List ℕ) → SeatState → Type 0)
-    (brings : LineState → List (List ℕ) → LineState → Type 0) (failures : LineState → ℕ)
-    (tasks : List (LineTask LineState)) (ends : List (LineEnd G N LineState))
-    → Pairwise (λ task. LineHasEnded takes brings failures
-    (new_seat (venue_of_line task.source) task.line) task.source) tasks ends
-    → map seat_line (map (λ e. e.seat) ends) ≡ map task_line tasks
-lines_of takes brings failures [] [] each = refl
-lines_of takes brings failures [] (e ∷ ends) each = absurd each
-lines_of takes brings failures (task ∷ tasks) [] each = absurd each
-lines_of takes brings failures (task ∷ tasks) (e ∷ ends) each =
-    let rest : List (ℕ × LineId) = map seat_line (map (λ e. e.seat) ends) in
-    ap (λ (venue : ℕ). (venue, e.seat.line) ∷ rest) each.0.venue
-    ∙ ap (λ (line : LineId). (venue_of_line task.source, line) ∷ rest) each.0.line
-    ∙ ap (λ lines. task_line task ∷ lines) (lines_of takes brings failures tasks ends each.1)
-
--- and what is reported of each is of its seat
-pub reported_of : {G N : Type 0} (ends : List (LineEnd G N LineState))
-    → map reported_line (map line_report ends) ≡ map seat_line (map (λ e. e.seat) ends)
-reported_of [] = refl
-reported_of (e ∷ ends) = ap (λ lines. seat_line e.seat ∷ lines) (reported_of ends)
-
-module _ {G N C W : Type 0} (settings : ListenSettings) (writing : Writing W) (lanes : FeedLanes)
-    (brings : LineState → List (List ℕ) → LineState → Type 0) (failures : LineState → ℕ)
+module _ {N C W : Type 0} (settings : ListenSettings) (writing : Writing W) (lanes : FeedLanes)
     (tasks : List (LineTask LineState)) (count : ℕ) (none : count ≡ 0)
     (before after : RowFollower C W) (whole : FeedReport LineState)
-    (w : IsWholeRun G N any_lines lanes (λ l. venue_of_line l) brings failures
+    (w : IsWholeRun Anything N any_lines lanes (λ l. venue_of_line l) line_brings line_failures
     (FollowsRows writing) tasks true count before after whole) where
   ended : Followed writing before after (logs_with w.later w.others)
   ended = followed writing before after w.log w.later w.others w.begun w.attended (w.all ∙ none)
-
-  seated : map seat_line (map (λ e. e.seat) w.ends) ≡ map task_line tasks
-  seated = lines_of (HasTaken any_lines lanes) brings failures tasks w.ends w.lines
 
   -- the forgotten notices of the settled log were noted
   pub noted_of : (symbols : List (List ℕ)) → before.console.unchanged ≡ symbols
@@ -150,14 +123,15 @@ module _ {G N C W : Type 0} (settings : ListenSettings) (writing : Writing W) (l
       (λ i. (sym log i, sym forgotten i)) (ended.notes symbols same)
 
   -- the report is that of the run
-  pub run_of : (report : ListenReport) → IsReportOfFeed settings whole report
-      → IsReportOfRun settings lanes (map task_line tasks) report
-  run_of report tells = record {
-    seats = map (λ e. e.seat) w.ends;
-    seated = seated;
+  pub run_of : (shares : List ℕ) (report : ListenReport)
+      → IsReportOfFeed settings shares whole report
+      → IsReportOfRun N settings lanes tasks shares report
+  run_of shares report tells = record {
+    ends = w.ends;
+    lines = w.lines;
     log = ended.log;
     whole = whole;
-    reported = ap (λ l. map reported_line l) w.reported ∙ reported_of w.ends ∙ seated;
+    reported = w.reported;
     settled =
         subst (λ logs. IsSettlement any_lines lanes (map (λ e. e.seat) w.ends) logs
         whole.settlement) ended.one w.settled;
@@ -165,9 +139,10 @@ module _ {G N C W : Type 0} (settings : ListenSettings) (writing : Writing W) (l
   }
 
   -- and of its settled log the forgotten rows were printed
-  pub printed_of : (report : ListenReport) → IsReportOfFeed settings whole report
+  pub printed_of : (shares : List ℕ) (report : ListenReport)
+      → IsReportOfFeed settings shares whole report
       → HasListenedOn writing before.console (Ok report) after.console
-  printed_of report tells =
+  printed_of shares report tells =
       λ style first unprinted.
       let log = settled_log_of ended.log ended.one w.settled in
       let forgotten = settled_forgotten_of ended.log ended.one w.settled in
@@ -178,19 +153,27 @@ module _ {G N C W : Type 0} (settings : ListenSettings) (writing : Writing W) (l
 
 -- a report of a run is one of the settings' feed, where the run's lanes and lines are theirs
 pub listened_if_run : (settings : ListenSettings) (sockets : List BoundLine) (lanes : FeedLanes)
-    (lines : List (ℕ × LineId)) (outcome : Result ListenReport ListenFault)
+    (tasks : List (LineTask LineState)) (shares : List ℕ)
+    (outcome : Result ListenReport ListenFault)
     → lanes.setting ≡ feed_setting settings
     → length lanes.venues ≡ vec_len settings.feed.sessions → AreNextOf settings lanes.next
-    → lines ≡ run_lines settings sockets
-    → IfOk outcome (IsReportOfRun settings lanes lines) → IfOk outcome (IsListened settings sockets)
-listened_if_run settings sockets lanes lines (Ok report) setting venues next same run = record {
-  lanes = lanes;
-  setting = setting;
-  venues = venues;
-  next = next;
-  run = subst (λ (l : List (ℕ × LineId)). IsReportOfRun settings lanes l report) same run;
-}
-listened_if_run settings sockets lanes lines (Err fault) setting venues next same run = tt
+    → map task_line tasks ≡ run_lines settings sockets → All (IsLineOf settings) tasks
+    → shares ≡ itch_venues settings
+    → IfOk outcome (IsReportOfRun Brand settings lanes tasks shares)
+    → IfOk outcome (IsListened settings sockets)
+listened_if_run settings sockets lanes tasks shares (Ok report) setting venues next are made itch
+    run = record {
+      lanes = lanes;
+      setting = setting;
+      venues = venues;
+      next = next;
+      tasks = tasks;
+      lines = are;
+      made = made;
+      run = subst (λ (l : List ℕ). IsReportOfRun Brand settings lanes tasks l report) itch run;
+    }
+listened_if_run settings sockets lanes tasks shares (Err fault) setting venues next are made itch
+    run = tt
 
 -- what was printed, by cases on whether there is a report
 pub listened_by : {C W : Type 0} (writing : Writing W) (before after : Console C W)

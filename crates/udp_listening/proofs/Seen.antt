@@ -9,8 +9,8 @@ use Rattle.itch_lines.specs.declared.itch_status.ItchStatus.{ItchStatus}
 use Rattle.live_feed.specs.run.Runs.{Pairwise}
 use Rattle.udp_listening.specs.ItchShown.{AreSeen, at_venue, noted_then, shown_at}
 
--- what one more source has shown
-one_more : {A B : Type 0} (R : A → B → Type 0) (xs : List A) (ys : List B) (x : A) (y : B)
+-- one more of each
+pub one_more : {A B : Type 0} (R : A → B → Type 0) (xs : List A) (ys : List B) (x : A) (y : B)
     → Pairwise R xs ys → R x y → Pairwise R (xs ++ x ∷ []) (ys ++ y ∷ [])
 one_more R [] [] x y each one = (one, tt)
 one_more R [] (z ∷ ys) x y each one = absurd each

@@ -1,44 +1,46 @@
 //! What the venues of a run in ITCH have come to.
 ghost use Rattle.text_out.specs.Members.{writing_of};
-ghost use Rattle.std.specs.Prelude.{◌≡◌, ◌++◌, [], IfOk, OnOk, flat_map};
+ghost use Rattle.std.specs.Prelude.{◌≡◌, ◌++◌, ◌∷◌, ℕ, List, [], IfOk, OnOk, flat_map, map};
 ghost use Rattle.event_sinks.specs.VenueGaps.{venue_gap};
 ghost use Rattle.text_out.specs.StandardError.{SaysEach};
 ghost use Rattle.udp_listening.specs.ItchEnds.{AreItchEnds, book_fault_texts_if, unquoted_texts_if, itch_lacks, itch_texts};
 
+use crate::listening::ListenFault;
 use event_sinks::VenueGap;
 use feed_types::{MissingRange, VenueId};
 use itch_book::BookFault;
 use itch_lines::{ItchVenueEnd, VenueShare};
 use run_notes::{write_book_fault, write_unquoted};
-use run_settings::{ListenSettings, VenueNames};
+use run_settings::VenueNames;
 use std::alloc::{AllocError, Global};
 use text_out::TextOut;
 
-/// Appends what the venue has come to whose lines share this.
+/// Appends what the venue has come to whose lines share this. Unsettled where it can't say that,
+/// which no run meets.
 #[tactic(auto, using(crate::proofs::Ended::one_more_end))]
-fn append_end(ends: &mut Vec<ItchVenueEnd>, share: &VenueShare) -> Result<(), AllocError>
-    ensures { OnOk result (AreItchEnds ends.old.items → AreItchEnds ends.new.items) }
+fn append_end(ends: &mut Vec<ItchVenueEnd>, share: &VenueShare) -> Result<(), ListenFault>
+    ensures { OnOk result ((venues : List ℕ) → AreItchEnds venues ends.old.items
+        → AreItchEnds (venues ++ share.now.venue ∷ []) ends.new.items) }
 {
-    if let Some(end) = share.end() {
-        ends.push(end)?;
+    let Some(end) = share.end() else {
+        return Err(ListenFault::Unsettled);
+    };
+    match ends.push(end) {
+        Ok(()) => Ok(()),
+        Err(_) => Err(ListenFault::NoMemory),
     }
-    Ok(())
 }
 
-/// Returns what the venues in ITCH have come to, by what their lines share; none where the settings
-/// have no such venue.
+/// Returns what the venues in ITCH have come to, by what their lines share, in order. Faults are
+/// those of `report_of`.
 pub(crate) fn itch_ends(
     alloc: Global,
-    settings: &ListenSettings,
     shares: &[VenueShare],
-) -> Result<Vec<ItchVenueEnd>, AllocError>
-    ensures none { settings.now.itch.venues.items ≡ [] → IfOk result (λ ends. ends.items ≡ []) }
-    ensures ends { IfOk result (λ ends. AreItchEnds ends.items) }
+) -> Result<Vec<ItchVenueEnd>, ListenFault>
+    ensures { IfOk result (λ ends.
+        AreItchEnds (map (λ share. share.venue) shares.now) ends.items) }
 {
     let mut ends = Vec::new(alloc);
-    if settings.itch.venues.is_empty() {
-        return Ok(ends);
-    }
     for share in shares {
         append_end(&mut ends, share)?;
     }

@@ -1,5 +1,5 @@
 //! The report of listening.
-ghost use Rattle.std.specs.Prelude.{◌≡◌, ◌++◌, IfOk, OnOk, flat_map};
+ghost use Rattle.std.specs.Prelude.{◌≡◌, ◌++◌, IfOk, OnOk, flat_map, map};
 ghost use Rattle.journal_book.specs.Journals.{kept_of};
 ghost use Rattle.run_settings.specs.FurtherOptions.{has_further_options};
 ghost use Rattle.udp_listening.specs.Reports.{IsReportOfFeed, absent_if, ended_line, ended_lines, failed_lines, line_if, noted_symbols, read_out_lines, tells_absent, reported_absent, told_ends};
@@ -48,7 +48,7 @@ pub struct ListenReport {
     /// The symbols of which no change of the national best was told, where the settings have
     /// further options and not all entries are kept.
     pub unchanged: AbsentList,
-    /// What the venues in ITCH have come to; none where the settings have no such venue.
+    /// What the venues in ITCH have come to, each once, in order.
     pub itch: Vec<ItchVenueEnd>,
     /// What stands for a venue in what is said of the report.
     pub names: VenueNames,
@@ -218,7 +218,8 @@ fn absent_of(
 
 /// The report of listening by the report of the settings' feed, of whose log the forgotten notices
 /// left these symbols unchanged, and whose lines of venues in ITCH share this. NoMemory where
-/// memory was refused, and no other fault.
+/// memory was refused; Unsettled where such a venue can't say what it has come to, which no run
+/// meets.
 pub fn report_of<C: Drop>(
     alloc: Global,
     settings: &ListenSettings,
@@ -228,9 +229,10 @@ pub fn report_of<C: Drop>(
 ) -> Result<ListenReport, ListenFault>
     requires { HasNoted (noted_symbols settings.now) (settled_log whole.settlement)
         (settled_forgotten whole.settlement) unchanged }
-    ensures { IfOk result (IsReportOfFeed settings.now whole) }
+    ensures { IfOk result
+        (IsReportOfFeed settings.now (map (λ share. share.venue) itch.now) whole) }
 {
-    let itch = itch_ends(alloc, settings, itch)?;
+    let itch = itch_ends(alloc, itch)?;
     Ok(ListenReport {
         failed: failed_in(alloc, whole.lines.as_slice())?,
         stopped: whole.stopped,

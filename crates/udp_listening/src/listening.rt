@@ -3,7 +3,7 @@ ghost use Rattle.std.specs.Prelude.{◌≡◌, ◌≤◌, IfOk, OnOk, length, ma
 ghost use Rattle.text_out.specs.Members.{writing_of};
 ghost use Rattle.udp_listening.specs.Listening.{HasListenedOn};
 ghost use Rattle.udp_listening.specs.NamedNext.{AreNextOf};
-ghost use Rattle.udp_listening.specs.Reports.{IsReportOfRun, noted_symbols, task_line};
+ghost use Rattle.udp_listening.specs.Reports.{IsReportOfRun, noted_symbols};
 ghost use Rattle.run_watches.specs.RunLines.{watched_run};
 ghost use Rattle.run_watches.specs.RunNews.{SaysOfRun};
 ghost use Rattle.udp_listening.specs.Settings.{IsFeedOf, feed_setting, most_logged};
@@ -39,7 +39,8 @@ const LANE: u32 = 1_024;
 pub enum ListenFault {
     /// Memory was refused.
     NoMemory,
-    /// The feed couldn't be settled. No run meets this.
+    /// The feed couldn't be settled, or a venue in ITCH couldn't say what it has come to. No run
+    /// meets this.
     Unsettled,
 }
 
@@ -175,8 +176,8 @@ where
     requires unchanged { follower.console.unchanged ≡ noted_symbols settings.now }
     ensures listened { HasListenedOn (writing_of W.TextOut)
         follower.console result.outcome result.console }
-    ensures run { IfOk result.outcome
-        (IsReportOfRun settings.now N.lanes (map task_line lines.tasks.items)) }
+    ensures run { IfOk result.outcome (IsReportOfRun N settings.now N.lanes
+        lines.tasks.items (map (λ share. share.venue) lines.itch.items)) }
     ensures says { SaysOfRun (writing_of E.TextOut)
         (watched_run monitor.watches) monitor.errors result.errors }
 {

@@ -1,10 +1,11 @@
 //! The sources of a feed's lines.
-ghost use Rattle.std.specs.Prelude.{◌≡◌, ◌++◌, ◌<◌, [], Contains, IfNone, IfOk, IfSome, OnOk, is_some, length, map, true, vec_len};
+ghost use Rattle.std.specs.Prelude.{◌≡◌, ◌++◌, ◌<◌, [], All, Contains, IfNone, IfOk, IfSome, OnOk, flat_map, is_some, length, map, true, vec_len};
 ghost use Rattle.run_settings.specs.FurtherOptions.{has_further_options};
 ghost use Rattle.run_watches.specs.RunLines.{heard_lines, watched, watched_lines};
 ghost use Rattle.itch_lines.specs.FeedLines.{IsInItch, source_of};
 ghost use Rattle.udp_listening.specs.Lines.{line_at, line_below, run_lines, venue_of_line};
-ghost use Rattle.udp_listening.specs.Reports.{task_line};
+ghost use Rattle.udp_listening.specs.ItchEnds.{itch_venues, named_venue, shared_venue};
+ghost use Rattle.udp_listening.specs.Reports.{IsLineOf, task_line};
 ghost use Rattle.udp_listening.specs.Settings.{IsSourceOf, end_rule_of, most_read_of};
 
 use crate::itch_statuses::ItchStatuses;
@@ -57,6 +58,7 @@ fn itch_share(
     venue: VenueId,
 ) -> Result<VenueShare, AllocError>
     requires { venue < vec_len settings.now.feed.sessions }
+    ensures { IfOk result (λ share. share.venue ≡ venue) }
 {
     let of_normaliser = NormaliserSettings {
         window: settings.feed.window,
@@ -74,6 +76,23 @@ fn itch_share(
     };
     let following = names_after(alloc, venue, settings.next.as_slice())?;
     VenueShare::new(alloc, normaliser, following)
+}
+
+/// Returns the same where the settings name the venue in ITCH.
+#[tactic(auto, using(crate::proofs::Named::none_named, crate::proofs::Named::one_named))]
+fn itch_share_if_named(
+    alloc: Global,
+    settings: &ListenSettings,
+    venue: VenueId,
+) -> Result<Option<VenueShare>, AllocError>
+    requires { venue < vec_len settings.now.feed.sessions }
+    ensures { IfOk result (λ itch.
+        shared_venue itch ≡ named_venue settings.now.itch.venues.items venue) }
+{
+    if !settings.itch.has(venue) {
+        return Ok(None);
+    }
+    Ok(Some(itch_share(alloc, settings, venue)?))
 }
 
 /// Returns the rules by which lines in ITCH go on.
@@ -97,15 +116,13 @@ impl VenueShares {
         venue: VenueId,
     ) -> Result<VenueShares, AllocError>
         requires { venue < vec_len settings.now.feed.sessions }
+        ensures { IfOk result (λ shares.
+            shared_venue shares.itch ≡ named_venue settings.now.itch.venues.items venue) }
     {
-        let mut itch = None;
-        if settings.itch.has(venue) {
-            itch = Some(itch_share(alloc, settings, venue)?);
-        }
         Ok(VenueShares {
             marks: VenueMarks::new(alloc)?,
             progress: Vec::new(alloc),
-            itch,
+            itch: itch_share_if_named(alloc, settings, venue)?,
         })
     }
 
@@ -221,8 +238,8 @@ fn line_over<C: Clock + Clone + Drop>(
     ensures venue { IfOk result (λ over. venue_of_line over ≡ source.venue) }
     ensures itch { IfOk result (λ over. IsInItch over
         → Contains settings.now.itch.venues.items source.venue) }
-    ensures own { IfOk result (λ over. (IsInItch over → ⊥)
-        → Contains settings.now.itch.venues.items source.venue → ⊥) }
+    ensures named { IfOk result (λ over. Contains settings.now.itch.venues.items source.venue
+        → IsInItch over) }
 {
     if !settings.itch.has(source.venue()) {
         return Ok(FeedLine::own(source));
@@ -241,13 +258,40 @@ fn line_over<C: Clock + Clone + Drop>(
 }
 
 /// Returns what the lines of each venue of the settings share, of which none is made.
+#[tactic(auto, using(crate::proofs::Named::all_shares, crate::proofs::Named::share_more))]
 fn venue_shares(alloc: Global, settings: &ListenSettings) -> Result<Vec<VenueShares>, AllocError>
-    ensures { IfOk result (λ shares. length shares.items ≡ vec_len settings.now.feed.sessions) }
+    ensures all { IfOk result (λ shares.
+        length shares.items ≡ vec_len settings.now.feed.sessions) }
+    ensures itch { IfOk result (λ shares.
+        flat_map (λ s. shared_venue s.itch) shares.items ≡ itch_venues settings.now) }
 {
     let venues = settings.feed.sessions.len();
     let mut shares = Vec::with_capacity(alloc, venues)?;
     for place in 0..venues {
         shares.push(VenueShares::new(alloc, settings, VenueId::at(place))?)?;
+    }
+    Ok(shares)
+}
+
+/// Appends what the lines of a venue in ITCH share, where these share it.
+fn append_share(shares: &mut Vec<VenueShare>, of: &VenueShares) -> Result<(), AllocError>
+    ensures { OnOk result (map (λ share. share.venue) shares.new.items
+        ≡ map (λ share. share.venue) shares.old.items ++ shared_venue of.now.itch) }
+{
+    if let Some(share) = &of.itch {
+        shares.push(share.share()?)?;
+    }
+    Ok(())
+}
+
+/// Returns what the lines of venues in ITCH share, in order.
+fn itch_shares(alloc: Global, venues: &[VenueShares]) -> Result<Vec<VenueShare>, AllocError>
+    ensures { IfOk result (λ shares. map (λ share. share.venue) shares.items
+        ≡ flat_map (λ s. shared_venue s.itch) venues.now) }
+{
+    let mut shares = Vec::new(alloc);
+    for venue in venues {
+        append_share(&mut shares, venue)?;
     }
     Ok(shares)
 }
@@ -279,6 +323,8 @@ struct LinesMade<C> {
     watches: Vec<LineWatch>,
     /// Of each venue of the settings.
     venues: Vec<VenueShares>,
+    /// What the lines of each venue in ITCH share.
+    itch: Vec<VenueShare>,
 }
 
 impl<C: Clock + Clone + Drop> LinesMade<C> {
@@ -288,15 +334,20 @@ impl<C: Clock + Clone + Drop> LinesMade<C> {
         ensures watches { IfOk result (λ made. made.watches.items ≡ []) }
         ensures venues { IfOk result (λ made. length made.venues.items
             ≡ vec_len settings.now.feed.sessions) }
+        ensures itch { IfOk result (λ made.
+            map (λ share. share.venue) made.itch.items ≡ itch_venues settings.now) }
     {
+        let venues = venue_shares(alloc, settings)?;
         Ok(LinesMade {
             tasks: Vec::new(alloc),
             watches: Vec::new(alloc),
-            venues: venue_shares(alloc, settings)?,
+            itch: itch_shares(alloc, venues.as_slice())?,
+            venues,
         })
     }
 
     /// Makes the line that this socket receives, unless it is of a venue that the settings haven't.
+    #[tactic(auto, using(crate::proofs::Sourced::made_more))]
     fn push(
         &mut self,
         alloc: Global,
@@ -311,7 +362,10 @@ impl<C: Clock + Clone + Drop> LinesMade<C> {
         ensures watches { OnOk result (map watched self.new.watches.items
             ≡ map watched self.old.watches.items
             ++ line_below (vec_len settings.now.feed.sessions) bound) }
+        ensures made { OnOk result (All (IsLineOf settings.now) self.old.tasks.items
+            → All (IsLineOf settings.now) self.new.tasks.items) }
         ensures venues { length self.new.venues.items ≡ length self.old.venues.items }
+        ensures itch { self.new.itch.items ≡ self.old.itch.items }
     {
         let Some(shares) = self.venues.get_mut(bound.venue.index()) else {
             return Ok(());
@@ -340,6 +394,9 @@ impl<C: Clock + Clone + Drop> LinesMade<C> {
             ≡ run_lines settings.now sockets.items) }
         ensures watches { IfOk result (λ made. map watched made.watches.items
             ≡ run_lines settings.now sockets.items) }
+        ensures made { IfOk result (λ made. All (IsLineOf settings.now) made.tasks.items) }
+        ensures itch { IfOk result (λ made.
+            map (λ share. share.venue) made.itch.items ≡ itch_venues settings.now) }
     {
         let mut made = LinesMade::none(alloc, settings)?;
         for bound in sockets {
@@ -347,22 +404,6 @@ impl<C: Clock + Clone + Drop> LinesMade<C> {
         }
         Ok(made)
     }
-}
-
-/// Returns what the lines of venues in ITCH share.
-fn itch_shares(alloc: Global, venues: Vec<VenueShares>) -> Result<Vec<VenueShare>, AllocError> {
-    let mut shares = Vec::new(alloc);
-    for venue in venues {
-        let VenueShares {
-            marks: _,
-            progress: _,
-            itch,
-        } = venue;
-        if let Some(share) = itch {
-            shares.push(share)?;
-        }
-    }
-    Ok(shares)
 }
 
 /// The system's tables, where more is told of the lines: by settings with further options.
@@ -389,14 +430,16 @@ pub fn lines_over<C: Clock + Clone + Drop>(
         ≡ run_lines settings.now sockets.items) }
     ensures watches { IfOk result (λ lines. watched_lines lines.watches
         ≡ heard_lines settings.now (run_lines settings.now sockets.items)) }
+    ensures made { IfOk result (λ lines. All (IsLineOf settings.now) lines.run.tasks.items) }
+    ensures itch { IfOk result (λ lines.
+        map (λ share. share.venue) lines.run.itch.items ≡ itch_venues settings.now) }
 {
     let made = LinesMade::over(alloc, settings, sockets, clock)?;
-    let shares = itch_shares(alloc, made.venues)?;
     Ok(ListenLines {
-        itch: ItchStatuses::of(alloc, shares.as_slice())?,
+        itch: ItchStatuses::of(alloc, made.itch.as_slice())?,
         run: ListenTasks {
             tasks: made.tasks,
-            itch: shares,
+            itch: made.itch,
         },
         watches: LineWatches::new(made.watches, tables_if_told(settings, tables)),
     })

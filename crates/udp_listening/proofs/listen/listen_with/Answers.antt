@@ -5,7 +5,6 @@ use Rattle.text_out.specs.Members.{writing_of}
 use Rattle.best_rows.specs.declared.style.RowStyle.{RowStyle}
 use Rattle.udp_listening.specs.Lines.{run_lines}
 use Rattle.udp_listening.specs.Listening.{IsUnprinted, ListensToEnd}
-use Rattle.udp_listening.specs.Reports.{task_line}
 use Rattle.run_watches.specs.RunLines.{heard_lines, listened_run, told_gaps, watched_gaps, watched_run}
 use Rattle.run_watches.specs.RunNews.{SaysOfRun}
 use Rattle.udp_listening.specs.declared.console.Console.{Console}
@@ -100,9 +99,10 @@ returns g c =
     record {
       outcome = outcome;
       listened =
-          listened_if_run settings sockets made.feed
-          (map task_line made.lines.run.tasks.items) outcome made.ensures.setting
-          made.ensures.venues made.ensures.next made.ensures'.tasks ran.ensures.run;
+          listened_if_run settings sockets made.feed made.lines.run.tasks.items
+          (map (λ share. share.venue) made.lines.run.itch.items) outcome made.ensures.setting
+          made.ensures.venues made.ensures.next made.ensures'.tasks made.ensures'.made
+          made.ensures'.itch ran.ensures.run;
       said = told;
       says =
           subst (λ (s : g.row.E.Denot). SaysOfRun telling (listened_run settings of_run) s told)

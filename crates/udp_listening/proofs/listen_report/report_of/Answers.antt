@@ -17,8 +17,7 @@ returns g c = record {
       ∙ ap (told_ends (has_further_options c.args.settings.now)) c.as_slice-4.ensures.value;
   absent = c.in_ok-absent_of.ensures;
   unchanged = c.settled_unchanged.ensures (noted_symbols c.args.settings.now) c.requires;
-  no_itch = c.in_ok-itch.ensures.none;
-  itch = c.in_ok-itch.ensures.ends;
+  itch = c.in_ok-itch.ensures;
   names = refl;
   settlement = refl;
 }

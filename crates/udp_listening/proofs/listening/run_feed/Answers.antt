@@ -1,10 +1,11 @@
-use Rattle.std.proofs.Common.{◌≡◌, map, subst, sym}
+use Rattle.std.proofs.Common.{◌≡◌, List, map, subst, sym}
 use Rattle.std.specs.Prelude.{Err, IfOk}
 use Rattle.std.proofs.lemmas.Result.{IfOk-at_ok}
+use Rattle.itch_lines.specs.declared.venue_share.VenueShare.{VenueShare}
 use Rattle.text_out.specs.Devices.{Writing}
 use Rattle.text_out.specs.Members.{writing_of}
 use Rattle.udp_listening.specs.Listening.{HasListenedOn}
-use Rattle.udp_listening.specs.Reports.{IsReportOfFeed, IsReportOfRun, noted_symbols, task_line}
+use Rattle.udp_listening.specs.Reports.{IsReportOfFeed, IsReportOfRun, noted_symbols}
 use Rattle.udp_listening.specs.SettledNotices.{HasNoted, settled_forgotten, settled_log}
 use Rattle.udp_listening.specs.declared.listening.ListenFault.{ListenFault}
 use Rattle.udp_listening.proofs.Monitored.{followed_if_run, listened_by, noted_of, printed_of, run_of, said_if_run, told_by}
@@ -19,7 +20,7 @@ report_of-outcome-requires g c =
     let s = c.in-Ok.whole.settlement in
     subst (λ left. HasNoted symbols (settled_log s) (settled_forgotten s) left)
     (sym c.replace-unchanged.ensures.value)
-    (noted_of c.args.settings.now out _ _ _ _ _ c.new.ensures.len c.args.follower
+    (noted_of c.args.settings.now out _ _ _ c.new.ensures.len c.args.follower
     ran.result.attendant c.in-Ok.whole (IfOk-at_ok _ c.in-Ok.is ran.ensures.whole) symbols
     c.requires.unchanged)
 
@@ -44,12 +45,16 @@ returns-clause-listened g c =
       | in-Ok w' ↦
           subst (λ o. HasListenedOn out before.console o shown) (sym w'.outcome-is)
           (listened_by out before.console shown
-          (IsReportOfFeed c.args.settings.now w'.in-Ok.whole)
+          (IsReportOfFeed c.args.settings.now (map (λ s. s.venue) c.args.lines.itch.items)
+          w'.in-Ok.whole)
           w'.report_of-outcome.result
           (λ report tells.
-          printed_of c.args.settings.now out _ _ _ _ _ c.new.ensures.len before after
-          w'.in-Ok.whole (IfOk-at_ok _ w'.in-Ok.is ran.ensures.whole) report tells)
-          failed w'.report_of-outcome.ensures)
+          printed_of c.args.settings.now out _ _ _ c.new.ensures.len before after
+          w'.in-Ok.whole (IfOk-at_ok _ w'.in-Ok.is ran.ensures.whole) _ report tells)
+          failed
+          (subst (λ (l : List VenueShare). IfOk w'.report_of-outcome.result
+          (IsReportOfFeed c.args.settings.now (map (λ s. s.venue) l) w'.in-Ok.whole))
+          w'.as_slice.ensures.value w'.report_of-outcome.ensures))
       | in-Err w' ↦
           subst (λ o. HasListenedOn out before.console o shown) (sym w'.outcome-is)
           (failed w'.fault_of.result)
@@ -59,16 +64,18 @@ pub returns-clause-run : goal.returns-clause-run
 returns-clause-run g c =
     let out : Writing g.row.W.Denot = writing_of g.W.TextOut in
     let ran = c.run_whole-outcome in
-    let run =
-    IsReportOfRun c.args.settings.now g.N.FeedName.lanes (map task_line c.args.lines.tasks.items) in
+    let run = IsReportOfRun g.row.N.Denot c.args.settings.now g.N.FeedName.lanes
+    c.args.lines.tasks.items (map (λ share. share.venue) c.args.lines.itch.items) in
     elim c.match-outcome.branch [
       | in-Ok w' ↦
           subst (λ o. IfOk o run) (sym w'.outcome-is)
           (told_by w'.report_of-outcome.result
           (λ report tells.
-          run_of c.args.settings.now out _ _ _ _ _ c.new.ensures.len c.args.follower
+          run_of c.args.settings.now out _ _ _ c.new.ensures.len c.args.follower
           ran.result.attendant
-          w'.in-Ok.whole (IfOk-at_ok _ w'.in-Ok.is ran.ensures.whole) report tells)
-          w'.report_of-outcome.ensures)
+          w'.in-Ok.whole (IfOk-at_ok _ w'.in-Ok.is ran.ensures.whole) _ report tells)
+          (subst (λ (l : List VenueShare). IfOk w'.report_of-outcome.result
+          (IsReportOfFeed c.args.settings.now (map (λ s. s.venue) l) w'.in-Ok.whole))
+          w'.as_slice.ensures.value w'.report_of-outcome.ensures))
       | in-Err w' ↦ subst (λ o. IfOk o run) (sym w'.outcome-is) tt
     ]

@@ -1,4 +1,5 @@
-use Rattle.std.proofs.Common.{◌∙◌, rules}
+use Rattle.std.proofs.Common.{◌∙◌, ap, map}
+use Rattle.itch_lines.specs.declared.venue_share.VenueShare.{VenueShare}
 use Rattle.udp_listening.proofs.Sourced.{one_more}
 use Rattle.udp_listening.proofs.sources.LinesMade.over.Goals as goal
 
@@ -12,4 +13,7 @@ loop-bound-preserved g c =
       one_more settings c.loop-bound.yielded c.in-Some.bound _ _ c.loop-bound.invariant.3
           c.in_ok-push.ensures.watches,
       c.push.ensures.venues ∙ c.loop-bound.invariant.4,
+      c.in_ok-push.ensures.made c.loop-bound.invariant.5,
+      ap (map (λ (share : VenueShare). share.venue)) c.push.ensures.itch
+          ∙ c.loop-bound.invariant.6,
     )
