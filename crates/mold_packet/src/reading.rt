@@ -6,7 +6,9 @@ ghost use Rattle.mold_packet.specs.Faults.{HasFault};
 
 use crate::blocks::split_blocks;
 use crate::fault::PacketFault;
-use crate::header::{END_COUNT, HEADER_LEN, HEARTBEAT_COUNT, read_count, read_number, read_session};
+use crate::header::{
+    END_COUNT, HEADER_LEN, HEARTBEAT_COUNT, read_count, read_number, read_session,
+};
 use crate::packet::{Kind, Packet};
 
 /// Reads a downstream packet from a datagram, or returns the first fault that fits: `ShortHeader`,
