@@ -31,5 +31,6 @@ loop-message-preserved c =
           (2 + length message) c.loop-message.invariant.1 (sym c.loop-message.invariant.0)
           c.write_block.ensures
           ∙ ap (λ (x : List ℕ). x ++ drop (c.loop-message.end + (2 + length message))
-          c.args.out.now) (sym (blocks_more lent c.args.messages.now i nothing c.loop-message-test.true)),
+          c.args.out.now)
+          (sym (blocks_more lent c.args.messages.now i nothing c.loop-message-test.true)),
     )
