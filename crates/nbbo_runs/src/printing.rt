@@ -103,7 +103,7 @@ fn gaps_before<W>(
     format: RowFormat,
     output: W,
 ) -> Result<RowSink<W, GapMaker>, W>
-    ensures rows { IfOk result (IsGapSink format output) }
+    ensures rows { IfOk result (IsGapSink format (venues_in config.now.replay) output) }
     ensures refused { IfErr result (λ back. back ≡ output) }
 {
     let Ok(venues) = new_gaps(alloc, config.replay.sessions.len()) else {

@@ -72,8 +72,9 @@ returns-in-Gaps g c =
     let format = c.in-Gaps.rows in
     let output = c.args.output in
     let made = c.gaps_before-made.result in
-    let printed = c.print_rows-in-Gaps.ensures (rows_of_gaps format) output
-    (made_writes made (gaps_write writing format output) c.gaps_before-made.ensures.rows)
+    let venues = venues_in c.config_of-config.result.replay in
+    let printed = c.print_rows-in-Gaps.ensures (rows_of_gaps format venues) output
+    (made_writes made (gaps_write writing format venues output) c.gaps_before-made.ensures.rows)
     c.gaps_before-made.ensures.refused in
     rw c.without_periods-in-Gaps.ensures (record {
       config = c.config_of-config.result.replay;
