@@ -116,24 +116,24 @@ where
         writes: Count::new(of_writes),
     };
     let mut errors: StreamOut<Stderr, E> = StreamOut::new(rt.stderr(), Count::new(of_errors));
-    let opened = match open_run(rt, counts, &mut errors) {
+    let (given, input, output) = match open_run(rt, counts, &mut errors) {
         Ok(opened) => opened,
         Err(status) => return status,
     };
-    let words = opened.words.as_slice();
+    let words = given.words.as_slice();
     let ProgramRun { next, facts, .. } = run(
         rt.alloc(),
         words,
-        opened.terminals,
-        opened.snapshots.as_slice(),
-        opened.input,
-        opened.output,
+        given.terminals,
+        given.snapshots.as_slice(),
+        input,
+        output,
         &mut errors,
     );
     write_hints(rt, words, &facts, &mut errors);
     match next {
         Next::Ended(status) => {
-            write_unwhole(&opened.files, status, &mut errors);
+            write_unwhole(&given.files, status, &mut errors);
             status
         }
         Next::Listens(settings) => {
@@ -177,16 +177,14 @@ struct StreamCounts<C: Ledger, R: Ledger, W: Ledger> {
     writes: Count<W>,
 }
 
-/// What a run is given: the words, the files that they name, and what they open.
+/// What a run is given beside its streams.
 #[derive(Drop)]
-struct OpenedRun<C: Ledger, R: Ledger, W: Ledger> {
+struct GivenRun {
     words: Vec<String>,
     files: StreamFiles,
     /// The bytes of the files of snapshots, in the order of the words.
     snapshots: Vec<Vec<u8>>,
     terminals: Terminals,
-    input: StreamIn<InputStream, C, R>,
-    output: StreamOut<OutputStream, W>,
 }
 
 /// Prints why the words are refused, and what would be right. Returns the status of the program.
@@ -230,13 +228,21 @@ fn write_unwhole<E: TextOut>(files: &StreamFiles, status: u8, errors: &mut E) {
     }
 }
 
-/// Reads the words, and opens the files that they name. Where the words are refused or a file isn't
-/// opened it is written why, and the status of the program is returned.
+/// Reads the words, and opens the files that they name: returns what a run is given, its input and
+/// its output. Where the words are refused or a file isn't opened it is written why, and the status
+/// of the program is returned.
 fn open_run<C: Ledger, R: Ledger, W: Ledger, E: TextOut>(
     rt: &HostRuntime,
     counts: StreamCounts<C, R, W>,
     errors: &mut E,
-) -> Result<OpenedRun<C, R, W>, u8> {
+) -> Result<
+    (
+        GivenRun,
+        StreamIn<InputStream, C, R>,
+        StreamOut<OutputStream, W>,
+    ),
+    u8,
+> {
     let words = match words_of(rt) {
         Ok(words) => words,
         Err(WordsFault::Unread(kind)) => {
@@ -262,14 +268,15 @@ fn open_run<C: Ledger, R: Ledger, W: Ledger, E: TextOut>(
     if terminals.errors {
         hint_at_symbols(rt, words.as_slice(), errors);
     }
-    Ok(OpenedRun {
+    let given = GivenRun {
         words,
         files,
         snapshots,
         terminals,
-        input: StreamIn::new(input, counts.calls, counts.reads),
-        output: StreamOut::new(output, counts.writes),
-    })
+    };
+    let input = StreamIn::new(input, counts.calls, counts.reads);
+    let output = StreamOut::new(output, counts.writes);
+    Ok((given, input, output))
 }
 
 /// Opens `/dev/null` in place of each standard stream that is closed, so that no socket gets its
