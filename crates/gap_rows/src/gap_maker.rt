@@ -109,6 +109,7 @@ pub fn new_gap_rows<W>(
     requires { page.text.items ≡ [] }
     ensures sink { IsNewRowSink page.writer result.maker (header_text format gap_names) result }
     ensures format { result.maker.format ≡ format }
+    ensures venues { result.maker.venues ≡ venues }
 {
     RowSink::new(page, GapMaker::new(format, venues), format, &gap_names())
 }

@@ -1,1 +1,2 @@
-mod Forms
+mod Growing
+mod Placing

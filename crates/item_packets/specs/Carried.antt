@@ -18,10 +18,6 @@ pub record IsMessageItem (item : Item) : Type 0 where
 abbrev pub numbered_item : Numbered → Item
 numbered_item n = n.item
 
--- no message of this project's own is longer
-abbrev pub IsShortMessage : List ℕ → Type 0
-IsShortMessage message = length message ≤ 34
-
 -- Items in a row, from this number on, of which the last may be the end.
 pub record RunsFrom (first : ℕ) (output : List Numbered) : Type 0 where
   pub items : List Item

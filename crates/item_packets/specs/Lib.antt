@@ -1,4 +1,5 @@
 pub mod Carried
+pub mod Filled
 pub mod Openings
 pub mod Packed
 pub mod laws

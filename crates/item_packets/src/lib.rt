@@ -5,13 +5,16 @@
 //! law [`packets_carry_on`] says that what calls pack one after another carries what they were
 //! given, one after the other.
 //!
-//! Begin at `specs/Carried.antt`; `message_forms.rt` has the messages, `packing.rt` the packets.
+//! Begin at `specs/Carried.antt`; `item_row.rt` has the parts of a row, `item_packet.rt` the packet
+//! of its first items, `packing.rt` all of them.
 #![tactic(auto)]
 
+mod item_packet;
+mod item_row;
 mod laws;
-mod message_forms;
 mod packing;
 
+pub use item_packet::{WrittenItems, write_items};
+pub use item_row::{end_number, first_number, messages_before_end};
 pub use laws::packets_carry_on;
-pub use message_forms::{end_number, fill_forms, first_number, lend_all, messages_before_end};
 pub use packing::PackingRoom;

@@ -1,21 +1,17 @@
 //! Items in a row as datagrams.
-ghost use Rattle.std.specs.Prelude.{◌≡◌, ◌⊎◌, ℕ, ◌+◌, ◌^◌, ◌≤◌, List, [], ◌∷◌, ◌++◌, length, map, OnOk};
+ghost use Rattle.std.specs.Prelude.{◌≡◌, ◌⊎◌, ℕ, ◌+◌, ◌^◌, ◌≤◌, List, [], ◌∷◌, ◌++◌, length, OnOk};
 ghost use Rattle.std.specs.List.{AllByRecursion};
 ghost use Rattle.feed_types.specs.declared.item.Item.{Item};
 ghost use Rattle.feed_types.specs.Sessions.{end_item, numbered_from};
-ghost use Rattle.mold_packet.specs.Body.{lent_bytes};
-ghost use Rattle.quote_payload.specs.Payload.{item_of};
-ghost use Rattle.venue_normaliser.specs.Forms.{form_bytes};
-ghost use Rattle.item_packets.specs.Carried.{IsMessageItem, IsShortMessage, RunsFrom};
+ghost use Rattle.item_packets.specs.Carried.{IsMessageItem, RunsFrom};
 ghost use Rattle.item_packets.specs.Packed.{AddsPacked, bytes_of_each};
 
-use crate::message_forms::{end_number, fill_forms, first_number, lend_all, messages_before_end};
+use crate::item_packet::write_items;
+use crate::item_row::{end_number, first_number, messages_before_end};
 use feed_types::{Numbered, SessionName};
 use mold_packet::{Body, write_packet};
-use packet_building::build_packet;
 use std::alloc::{AllocError, Global};
 use std::collections::VecDeque;
-use venue_normaliser::MessageForm;
 
 /// The most bytes of a datagram by UDP over IPv4.
 const MOST_BYTES: usize = 65_507;
@@ -24,7 +20,6 @@ const MOST_BYTES: usize = 65_507;
 #[derive(Drop)]
 pub struct PackingRoom {
     packet: Vec<u8>,
-    forms: Vec<MessageForm>,
     alloc: Global,
     pub ghost has_room: { length packet.items ≡ 65507 },
 }
@@ -39,34 +34,28 @@ fn push_datagram(alloc: Global, bytes: &[u8], out: &mut VecDeque<Vec<u8>>) -> Re
     Ok(())
 }
 
-/// Appends the packets of messages from a number on, as few as can be.
+/// Appends the packets of messages in a row from a number on, as few as can be.
 fn put_messages(
     alloc: Global,
     session: &SessionName,
     number: u64,
-    messages: &[&[u8]],
+    items: &[Numbered],
     packet: &mut [u8],
     out: &mut VecDeque<Vec<u8>>,
 ) -> Result<(), AllocError>
     requires from_one { 1 ≤ number }
-    requires in_range { number + length messages.now ≤ 2 ^ 64 }
-    requires short { AllByRecursion IsShortMessage (lent_bytes messages.now) }
+    requires in_range { number + length items.now ≤ 2 ^ 64 }
     requires room { length packet.old ≡ 65507 }
-    ensures put { OnOk result (AddsPacked session.now
-        (numbered_from number (map item_of (lent_bytes messages.now)))
-        out.old.items out.new.items) }
+    ensures put { OnOk result ((its : List Item)
+        → items.now ≡ numbered_from number its → AllByRecursion IsMessageItem its
+        → AddsPacked session.now items.now out.old.items out.new.items) }
     ensures room { length packet.new ≡ 65507 }
 {
     let mut from = 0;
-    'packets: while from < messages.len() {
-        let rest = &messages[from..];
-        match build_packet(session, number + from as u64, rest, packet) {
-            Some(built) => {
-                push_datagram(alloc, &packet[..built.len], out)?;
-                from += built.messages;
-            }
-            None => unreachable!(),
-        }
+    'packets: while from < items.len() {
+        let written = write_items(session, number + from as u64, &items[from..], packet);
+        push_datagram(alloc, &packet[..written.len], out)?;
+        from += written.count;
     }
     Ok(())
 }
@@ -98,36 +87,7 @@ impl PackingRoom {
     /// Takes the memory of a longest datagram.
     pub fn new(alloc: Global) -> Result<PackingRoom, AllocError> {
         let packet = vec![in alloc; 0u8; MOST_BYTES]?;
-        Ok(PackingRoom {
-            packet,
-            forms: Vec::new(alloc),
-            alloc,
-        })
-    }
-
-    /// Appends the packets of the messages that the forms are.
-    fn put_forms(
-        &mut self,
-        session: &SessionName,
-        number: u64,
-        out: &mut VecDeque<Vec<u8>>,
-    ) -> Result<(), AllocError>
-        requires from_one { 1 ≤ number }
-        requires in_range { number + length self.old.forms.items ≤ 2 ^ 64 }
-        ensures put { OnOk result (AddsPacked session.now
-            (numbered_from number (map (λ f. item_of (form_bytes f)) self.old.forms.items))
-            out.old.items out.new.items) }
-    {
-        let messages = lend_all(self.alloc, self.forms.as_slice())?;
-        let packet = self.packet.as_mut_slice();
-        put_messages(
-            self.alloc,
-            session,
-            number,
-            messages.as_slice(),
-            packet,
-            out,
-        )
+        Ok(PackingRoom { packet, alloc })
     }
 
     /// Appends the packets of messages in a row.
@@ -145,8 +105,8 @@ impl PackingRoom {
         let Some(number) = first_number(items) else {
             return Ok(());
         };
-        fill_forms(&mut self.forms, items)?;
-        self.put_forms(session, number, out)
+        let packet = self.packet.as_mut_slice();
+        put_messages(self.alloc, session, number, items, packet, out)
     }
 
     /// Appends to `out` the datagrams of the session of this name, ten bytes, that carry these

@@ -1,6 +1,7 @@
 -- The gaps of a venue, as they are kept after its events. Of a list of events the last one stands
 -- first.
-use Rattle.std.specs.Prelude.{◌≡◌, ℕ, ◌+◌, ◌-◌, ◌≤◌, Bool, true, false, None, Some, Result, List, [], ◌∷◌, ◌++◌, min}
+use Rattle.std.specs.Prelude.{◌≡◌, ℕ, ◌+◌, ◌-◌, ◌≤◌, Bool, true, false, None, Some, Result, List, [], ◌∷◌, ◌++◌, length, min}
+use Rattle.std.specs.List.{AllByRecursion}
 use Rattle.feed_types.specs.declared.line.LineId.{LineId}
 use Rattle.feed_types.specs.FullCounts.{count_after}
 use Rattle.feed_types.specs.PerLines.{on_line}
@@ -71,6 +72,11 @@ pub record FitsSession (events : List TimedEvent) (gaps : VenueGaps) : Type 0 wh
 -- A venue after these events of all its sessions.
 abbrev pub FitsGaps : List TimedEvent → VenueGaps → Type 0
 FitsGaps events gaps = FitsSession (in_session events) gaps
+
+-- Of this many venues nothing came.
+pub record AreNewGaps (count : ℕ) (venues : List VenueGaps) : Type 0 where
+  pub count_is : length venues ≡ count
+  pub fit : AllByRecursion (FitsGaps []) venues
 
 -- The same, but for the packets past the window: these are as after one event more.
 pub record FitsBut (earlier : List TimedEvent) (last : TimedEvent) (gaps : VenueGaps)

@@ -1,6 +1,6 @@
 //! The gaps of a venue: those of line A, of line B, and of all lines together.
 
-ghost use Rattle.std.specs.Prelude.{◌≡◌, ℕ, Bool, true, List, [], ◌∷◌, ◌++◌, Option, IfOk, Ok, length, if◌then◌else◌};
+ghost use Rattle.std.specs.Prelude.{◌≡◌, ℕ, Bool, true, List, [], ◌∷◌, ◌++◌, Option, IfOk, Ok, if◌then◌else◌};
 ghost use Rattle.feed_types.specs.FullCounts.{count_after};
 ghost use Rattle.event_sinks.specs.SinkEvents.{TimedEvent, timed_event, told_by, told_packet, told_renewal, told_skip};
 ghost use Rattle.line_arbiter.specs.declared.outcome.Outcome.TheVariants.{Ahead, Taken};
@@ -12,7 +12,7 @@ ghost use Rattle.line_gaps.specs.Missing.{CountsNumbers, FitsLost, KeptAll};
 ghost use Rattle.line_gaps.specs.OpenGaps.{closes_gaps};
 ghost use Rattle.line_gaps.specs.Runs.{IsLeast};
 ghost use Rattle.line_gaps.specs.Sums.{AreSumsOf};
-ghost use Rattle.line_gaps.specs.VenueFits.{EndsJust, FitsBut, FitsGaps, FitsSession, IsHeard, StepsOn, TakesTimed, runs_dropped, lost_by_both_of, missing_total, packet_event};
+ghost use Rattle.line_gaps.specs.VenueFits.{AreNewGaps, EndsJust, FitsBut, FitsGaps, FitsSession, IsHeard, StepsOn, TakesTimed, runs_dropped, lost_by_both_of, missing_total, packet_event};
 
 use crate::ended_gaps::EndedGaps;
 use crate::gap_line::GapLine;
@@ -80,7 +80,7 @@ pub struct VenueGaps {
 
 /// Makes the gaps of this many venues, of which nothing came. Fails where memory is refused.
 pub fn new_gaps(alloc: Global, count: usize) -> Result<Vec<VenueGaps>, AllocError>
-    ensures { IfOk result (λ venues. length venues.items ≡ count) }
+    ensures { IfOk result (λ venues. AreNewGaps count venues.items) }
 {
     let mut venues = Vec::new(alloc);
     for place in 0..count {

@@ -1,5 +1,3 @@
-pub mod Growing
 pub mod OneRequest
-pub mod Overwriting
 pub mod Packets
 pub mod ReadsBack

@@ -9,7 +9,7 @@ use Rattle.mold_packet.specs.Body.{BodyFits, lent_bytes, body_kind, body_message
 use Rattle.mold_packet.specs.Content.{IsContent, count_field, spelling, Spells}
 use Rattle.mold_packet.specs.Header.{header}
 use Rattle.mold_packet.specs.laws.HeaderFields.{length-header}
-use Rattle.mold_packet.proofs.Overwriting.{tail_written, take_front, writes_first}
+use Rattle.mold_packet.specs.laws.Overwriting.{tail_written, take_front, writes_first}
 use Rattle.mold_packet.specs.Writing.{WritesFirst}
 use borrow.Rule.Slice.PartMut.{put_mid}
 

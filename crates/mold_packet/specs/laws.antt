@@ -5,3 +5,5 @@ pub mod HeaderFields
 pub mod Spelling
 pub mod OneReading
 pub mod EveryReading
+pub mod Growing
+pub mod Overwriting

@@ -4,7 +4,7 @@ ghost use Rattle.std.specs.Prelude.{◌≡◌, ◌≤◌, length};
 ghost use Rattle.mold_packet.specs.Body.{lent_bytes, body_kind, body_messages};
 ghost use Rattle.mold_packet.specs.Content.{count_field};
 
-use crate::header::{END, HEARTBEAT};
+use crate::header::{END_COUNT, HEARTBEAT_COUNT};
 
 /// What follows the header of a packet that is written.
 #[derive(Clone, Copy, Debug)]
@@ -33,8 +33,8 @@ impl<'a> Body<'a> {
     {
         match self {
             Body::Blocks(messages) => messages.len() as u16,
-            Body::Heartbeat => HEARTBEAT,
-            Body::End => END,
+            Body::Heartbeat => HEARTBEAT_COUNT,
+            Body::End => END_COUNT,
         }
     }
 }

@@ -4,13 +4,13 @@ ghost use Rattle.std.specs.Prelude.{◌≡◌, ◌≤◌, ◌++◌, length, drop
 ghost use Rattle.mold_packet.specs.Header.{header, session_at, number_at, count_at};
 
 /// The number of bytes of a downstream packet's header, and of a whole request.
-pub(crate) const HEADER: usize = 20;
+pub const HEADER_LEN: usize = 20;
 
 /// The count of a heartbeat.
-pub(crate) const HEARTBEAT: u16 = 0;
+pub(crate) const HEARTBEAT_COUNT: u16 = 0;
 
 /// The count of an end of session.
-pub(crate) const END: u16 = 0xffff;
+pub const END_COUNT: u16 = 0xffff;
 
 #[inline]
 pub(crate) fn read_session(bytes: &[u8]) -> [u8; 10]
@@ -40,8 +40,9 @@ pub(crate) fn read_count(bytes: &[u8]) -> u16
     u16::from_be_bytes([bytes[18], bytes[19]])
 }
 
-/// Writes the fields into the first 20 bytes.
-pub(crate) fn write_header(session: &[u8; 10], number: u64, count: u16, out: &mut [u8])
+/// Writes a header to the first 20 bytes of `out`, which has at least as many: the session's ten
+/// bytes, the number of the first message, and how many messages follow.
+pub fn write_header(session: &[u8; 10], number: u64, count: u16, out: &mut [u8])
     requires { 20 ≤ length out.old }
     ensures { out.new ≡ header session.now number count ++ drop 20 out.old }
 {

@@ -6,7 +6,9 @@ ghost use Rattle.mold_packet.specs.Faults.{HasFault};
 
 use crate::blocks::split_blocks;
 use crate::fault::PacketFault;
-use crate::header::{END, HEADER, HEARTBEAT, read_count, read_number, read_session};
+use crate::header::{
+    END_COUNT, HEADER_LEN, HEARTBEAT_COUNT, read_count, read_number, read_session,
+};
 use crate::packet::{Kind, Packet};
 
 /// Reads a downstream packet from a datagram, or returns the first fault that fits: `ShortHeader`,
@@ -31,16 +33,16 @@ pub fn read_packet(bytes: &[u8]) -> Result<Packet<'_>, PacketFault>
     ensures spelled { IfOk result (λ packet. (rest : List ℕ) × Spells bytes.now packet rest) }
     ensures fault { IfErr result (HasFault bytes.now) }
 {
-    if bytes.len() < HEADER {
+    if bytes.len() < HEADER_LEN {
         return Err(PacketFault::ShortHeader);
     }
     let number = read_number(bytes);
     let (kind, count) = match read_count(bytes) {
-        HEARTBEAT => (Kind::Heartbeat, 0),
-        END => (Kind::End, 0),
+        HEARTBEAT_COUNT => (Kind::Heartbeat, 0),
+        END_COUNT => (Kind::End, 0),
         count => (Kind::Messages, count),
     };
-    let Some((blocks, rest)) = split_blocks(count, &bytes[HEADER..]) else {
+    let Some((blocks, rest)) = split_blocks(count, &bytes[HEADER_LEN..]) else {
         return Err(PacketFault::TruncatedBlock);
     };
     if number == 0 {

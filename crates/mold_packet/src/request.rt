@@ -5,7 +5,7 @@ ghost use Rattle.mold_packet.specs.Request.{SpellsRequest, HasRequestFault};
 ghost use Rattle.mold_packet.specs.Writing.{WritesFirst, WritesNothing};
 
 use crate::fault::PacketFault;
-use crate::header::{HEADER, read_count, read_number, read_session, write_header};
+use crate::header::{HEADER_LEN, read_count, read_number, read_session, write_header};
 
 /// Asks a session's sender for messages again.
 ///
@@ -37,11 +37,11 @@ pub fn write_request(request: &Request, out: &mut [u8]) -> Result<usize, PacketF
     ensures first { OnOk result (WritesFirst 20 out.old out.new) }
     ensures refused { IfErr result (λ fault. WritesNothing fault 20 out.old out.new) }
 {
-    if out.len() < HEADER {
+    if out.len() < HEADER_LEN {
         return Err(PacketFault::BufferTooSmall);
     }
     write_header(&request.session, request.number, request.count, out);
-    Ok(HEADER)
+    Ok(HEADER_LEN)
 }
 
 /// Reads a request, or returns the first fault that fits: `BadRequestLength` where there are not
@@ -51,7 +51,7 @@ pub fn read_request(bytes: &[u8]) -> Result<Request, PacketFault>
     ensures from_one { IfOk result (λ request. 1 ≤ request.number) }
     ensures fault { IfErr result (HasRequestFault bytes.now) }
 {
-    if bytes.len() != HEADER {
+    if bytes.len() != HEADER_LEN {
         return Err(PacketFault::BadRequestLength);
     }
     let number = read_number(bytes);

@@ -9,7 +9,7 @@ ghost use Rattle.mold_packet.specs.Writing.{WritesFirst, WritesNothing};
 
 use crate::body::Body;
 use crate::fault::PacketFault;
-use crate::header::{HEADER, write_header};
+use crate::header::{HEADER_LEN, write_header};
 
 /// The number of bytes that the blocks of these messages take.
 fn blocks_len(messages: &[&[u8]]) -> usize
@@ -25,8 +25,9 @@ fn blocks_len(messages: &[&[u8]]) -> usize
     len
 }
 
-/// Writes the message's block to the front of `out`.
-fn write_block(message: &[u8], out: &mut [u8])
+/// Writes the message's block to the front of `out`: its length in two bytes, and the message. It
+/// has at most 65,535 bytes, and `out` has room for it.
+pub fn write_block(message: &[u8], out: &mut [u8])
     requires is_message { IsMessage message.now }
     requires room { 2 + length message.now ≤ length out.old }
     ensures { out.new ≡ block message.now ++ drop (2 + length message.now) out.old }
@@ -72,11 +73,11 @@ pub fn write_packet(
         WritesNothing fault n out.old out.new) }
 {
     let messages = body.messages();
-    let len = HEADER + blocks_len(messages);
+    let len = HEADER_LEN + blocks_len(messages);
     if out.len() < len {
         return Err(PacketFault::BufferTooSmall);
     }
     write_header(session, number, body.count_field(), out);
-    write_blocks(messages, &mut out[HEADER..]);
+    write_blocks(messages, &mut out[HEADER_LEN..]);
     Ok(len)
 }

@@ -26,7 +26,7 @@ mod word_files;
 use crate::opening::{why_unwritten, write_unopened};
 use crate::recording::{end_recording, open_recording, start_recording};
 use crate::snapshot_files::snapshot_files;
-use crate::streams::opened_streams;
+use crate::streams::{InputStream, OutputStream, opened_streams};
 use crate::word_files::{WordsFault, words_of, write_unread};
 use command_words::{Refusal, StreamFiles, explanation_of, settings, stream_files, symbol_words};
 use line_recordings::{RecordingState, SkipRecords};
@@ -110,15 +110,33 @@ where
     requires told_parts { of_told.parts ≡ T.parts }
     requires some_told { 0 < of_told.parts }
 {
-    let streams: StreamCounts<C, R, W> = StreamCounts {
+    let counts: StreamCounts<C, R, W> = StreamCounts {
         calls: Count::new(of_calls),
         reads: Count::new(of_reads),
         writes: Count::new(of_writes),
     };
     let mut errors: StreamOut<Stderr, E> = StreamOut::new(rt.stderr(), Count::new(of_errors));
-    match run_words(rt, streams, &mut errors) {
-        ProgramEnd::Status(status) => status,
-        ProgramEnd::Listens(settings) => {
+    let (given, input, output) = match open_run(rt, counts, &mut errors) {
+        Ok(opened) => opened,
+        Err(status) => return status,
+    };
+    let words = given.words.as_slice();
+    let ProgramRun { next, facts, .. } = run(
+        rt.alloc(),
+        words,
+        given.terminals,
+        given.snapshots.as_slice(),
+        input,
+        output,
+        &mut errors,
+    );
+    write_hints(rt, words, &facts, &mut errors);
+    match next {
+        Next::Ended(status) => {
+            write_unwhole(&given.files, status, &mut errors);
+            status
+        }
+        Next::Listens(settings) => {
             let counts = ListenCounts {
                 rows: Count::new(of_rows),
                 texts: Count::new(of_texts),
@@ -159,13 +177,14 @@ struct StreamCounts<C: Ledger, R: Ledger, W: Ledger> {
     writes: Count<W>,
 }
 
-/// What is left to do once the words are read.
+/// What a run is given beside its streams.
 #[derive(Drop)]
-enum ProgramEnd {
-    /// Nothing; the status of the program.
-    Status(u8),
-    /// To listen.
-    Listens(ListenSettings),
+struct GivenRun {
+    words: Vec<String>,
+    files: StreamFiles,
+    /// The bytes of the files of snapshots, in the order of the words.
+    snapshots: Vec<Vec<u8>>,
+    terminals: Terminals,
 }
 
 /// Prints why the words are refused, and what would be right. Returns the status of the program.
@@ -209,75 +228,55 @@ fn write_unwhole<E: TextOut>(files: &StreamFiles, status: u8, errors: &mut E) {
     }
 }
 
-/// Does what the words ask for over the streams that they name, but for listening, and writes the
-/// hints.
-fn run_over<C: Ledger, R: Ledger, W: Ledger, E: TextOut>(
+/// Reads the words, and opens the files that they name: returns what a run is given, its input and
+/// its output. Where the words are refused or a file isn't opened it is written why, and the status
+/// of the program is returned.
+fn open_run<C: Ledger, R: Ledger, W: Ledger, E: TextOut>(
     rt: &HostRuntime,
-    words: &[String],
-    files: &StreamFiles,
     counts: StreamCounts<C, R, W>,
     errors: &mut E,
-) -> ProgramEnd {
-    let Some(snapshots) = snapshot_files(rt, words, errors) else {
-        return ProgramEnd::Status(1);
+) -> Result<
+    (
+        GivenRun,
+        StreamIn<InputStream, C, R>,
+        StreamOut<OutputStream, W>,
+    ),
+    u8,
+> {
+    let words = match words_of(rt) {
+        Ok(words) => words,
+        Err(WordsFault::Unread(kind)) => {
+            return Err(refuse_words(rt, &[], unread(kind), counts.writes, errors));
+        }
+        Err(WordsFault::File(name, why)) => {
+            write_unread(name.as_str(), why, errors);
+            return Err(2);
+        }
     };
-    let Some((input, output)) = opened_streams(rt, files, errors) else {
-        return ProgramEnd::Status(1);
+    let files = match files_of(rt.alloc(), words.as_slice()) {
+        Ok(files) => files,
+        Err(refusal) => {
+            return Err(refuse_words(rt, words.as_slice(), refusal, counts.writes, errors));
+        }
     };
+    let snapshots = snapshot_files(rt, words.as_slice(), errors).ok_or(1)?;
+    let (input, output) = opened_streams(rt, &files, errors).ok_or(1)?;
     let terminals = Terminals {
         input: files.input.is_none() && rt.stdin().is_terminal(),
         errors: rt.stderr().is_terminal(),
     };
     if terminals.errors {
-        hint_at_symbols(rt, words, errors);
+        hint_at_symbols(rt, words.as_slice(), errors);
     }
+    let given = GivenRun {
+        words,
+        files,
+        snapshots,
+        terminals,
+    };
     let input = StreamIn::new(input, counts.calls, counts.reads);
     let output = StreamOut::new(output, counts.writes);
-    let snapshots = snapshots.as_slice();
-    let ProgramRun { next, facts, .. } = run(
-        rt.alloc(),
-        words,
-        terminals,
-        snapshots,
-        input,
-        output,
-        errors,
-    );
-    write_hints(rt, words, &facts, errors);
-    match next {
-        Next::Ended(status) => {
-            write_unwhole(files, status, errors);
-            ProgramEnd::Status(status)
-        }
-        Next::Listens(settings) => ProgramEnd::Listens(settings),
-    }
-}
-
-/// Does what the words of the command line ask for, but for listening.
-fn run_words<C: Ledger, R: Ledger, W: Ledger, E: TextOut>(
-    rt: &HostRuntime,
-    counts: StreamCounts<C, R, W>,
-    errors: &mut E,
-) -> ProgramEnd {
-    let words = match words_of(rt) {
-        Ok(words) => words,
-        Err(WordsFault::Unread(kind)) => {
-            let status = refuse_words(rt, &[], unread(kind), counts.writes, errors);
-            return ProgramEnd::Status(status);
-        }
-        Err(WordsFault::File(name, why)) => {
-            write_unread(name.as_str(), why, errors);
-            return ProgramEnd::Status(2);
-        }
-    };
-    let words = words.as_slice();
-    match files_of(rt.alloc(), words) {
-        Ok(files) => run_over(rt, words, &files, counts, errors),
-        Err(refusal) => {
-            let status = refuse_words(rt, words, refusal, counts.writes, errors);
-            ProgramEnd::Status(status)
-        }
-    }
+    Ok((given, input, output))
 }
 
 /// Opens `/dev/null` in place of each standard stream that is closed, so that no socket gets its

@@ -13,16 +13,17 @@ use Rattle.report_rows.specs.declared.row_sink.RowSink.{RowSink}
 use Rattle.nbbo_runs.specs.Printing.{FailsGaps, IsGapSink, IsGapText, WritesRows, rows_of_gaps}
 use Rattle.nbbo_runs.proofs.SinkPrints.{page_failed}
 
-module _ {W : Type 0} (writing : Writing W) (format : RowFormat) (writer : W)
-    (old : RowSink W GapMaker) (is : IsGapSink format writer old) where
+module _ {W : Type 0} (writing : Writing W) (format : RowFormat) (venues : ℕ) (writer : W)
+    (old : RowSink W GapMaker) (is : IsGapSink format venues writer old) where
   abbrev header : List ℕ
   header = header_text format gap_names
 
   gap_text : (told : List TimedEvent) (rows : List ℕ) → TellsGaps old.maker told rows
-      → IsGapText format told (header ++ rows)
+      → IsGapText format venues told (header ++ rows)
   gap_text told rows tells = record {
     maker = old.maker;
     format_is = is.format_is;
+    are_new = is.are_new;
     rows = rows;
     tells = tells;
     is = refl;
@@ -30,7 +31,8 @@ module _ {W : Type 0} (writing : Writing W) (format : RowFormat) (writer : W)
 
   written : (told : List TimedEvent) (new : RowSink W GapMaker)
       → TakesRows MakesGaps writing.adds writing.failures old told new → new.page.text.items ≡ []
-      → (text : List ℕ) × IsGapText format told text × writing.adds writer text new.page.writer
+      → (text : List ℕ) × IsGapText format venues told text
+      × writing.adds writer text new.page.writer
   written told new took none =
       let text = took.text in
       let shown = took.takes.shown in
@@ -46,7 +48,7 @@ module _ {W : Type 0} (writing : Writing W) (format : RowFormat) (writer : W)
 
   stopped : (told : List TimedEvent) (new : RowSink W GapMaker)
       → FailsRows TellsGaps writing.adds writing.failures old told new
-      → FailsGaps writing format told writer new.page.writer
+      → FailsGaps writing format venues told writer new.page.writer
   stopped told new fails =
       let text = fails.text in
       let failed = page_failed writing writer (header ++ text) old.page new.page is.is.writer_is
@@ -62,5 +64,5 @@ module _ {W : Type 0} (writing : Writing W) (format : RowFormat) (writer : W)
         failed = failed.1;
       }
 
-  pub gaps_write : WritesRows writing MakesGaps TellsGaps (rows_of_gaps format) writer old
+  pub gaps_write : WritesRows writing MakesGaps TellsGaps (rows_of_gaps format venues) writer old
   gaps_write = record { same = is.is.writer_is; written = written; failed = stopped }

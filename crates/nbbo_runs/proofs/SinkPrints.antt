@@ -1,5 +1,5 @@
 -- A replay to a sink that writes a text of events prints it.
-use Rattle.std.proofs.Common.{◌≡◌, ℕ, ◌+◌, List, [], ◌∷◌, ◌++◌, Ok, Err, ap, refl, subst, ◌∙◌}
+use Rattle.std.proofs.Common.{◌≡◌, ℕ, ◌+◌, List, [], ◌∷◌, ◌++◌, Ok, Err, append-nil, ap, refl, sym, subst, ◌∙◌}
 use Rattle.std.specs.Prelude.{⊤, IfOk, Result, flat_map}
 use Rattle.feed_text.specs.declared.replay.ReplayConfig.{ReplayConfig}
 use Rattle.event_sinks.specs.declared.replay_stop.ReplayStop.{ReplayStop}
@@ -7,9 +7,11 @@ use Rattle.event_sinks.specs.declared.text_page.TextPage.{TextPage}
 use Rattle.text_out.specs.Devices.{Reading, Writing, Wrote}
 use Rattle.feed_text.specs.EventReplays.{AnswersRun}
 use Rattle.capture_records.specs.Formats.{Parsing}
+use Rattle.feed_text.specs.Replays.{text_told}
 use Rattle.feed_text.specs.ReplayStates.{SinkTaking}
 use Rattle.event_sinks.specs.SinkEvents.{TimedEvent}
-use Rattle.event_sinks.specs.TextPages.{FailsPage}
+use Rattle.event_sinks.specs.EventLines.{timed_line}
+use Rattle.event_sinks.specs.TextPages.{FailsPage, FailsText, TakesText}
 use Rattle.best_rows.specs.declared.style.RowStyle.{RowStyle}
 use Rattle.best_rows.specs.RowTexts.{event_row, header_of}
 use Rattle.replay_reports.specs.BestRowMakers.{IsInStyle, style_rows, text_of_rows}
@@ -20,7 +22,7 @@ use Rattle.report_rows.specs.RowSinks as sinks
 use Rattle.report_rows.specs.declared.row_sink.RowSink.{RowSink}
 use Rattle.replay_run.specs.Printed.{facts_of_run}
 use Rattle.run_settings.specs.declared.time_span.TimeSpan.{TimeSpan}
-use Rattle.nbbo_runs.specs.Printing.{IsSinkBefore, PrintedRows, PrintsRows, WritesRows, printing_rows, rows_of_text, span_events, taking_in}
+use Rattle.nbbo_runs.specs.Printing.{IsSinkBefore, PrintedRows, PrintsAllRows, PrintsRows, WritesRows, printing, printing_rows, rows_of_text, span_events, taking_in}
 use Rattle.nbbo_runs.proofs.SinkRuns.{run_as}
 
 -- Of a sink before a writer: where it shows all that it took, the writer took that; where it
@@ -63,6 +65,48 @@ module _ {W : Type 0} (writing : Writing W) where
     subst (λ (w : W). Wrote writing.adds w text q.writer) same failed.wrote,
     subst (λ (w : W). writing.failures q.writer ≡ writing.failures w + 1) same failed.failed,
   )
+
+  -- a sink of lines before a writer, where nothing waits
+  pub lines_print : {R S F K : Type 0} (reading : Reading R) (parsing : Parsing S F)
+      (config : ReplayConfig) (from to : R) (start finish : S)
+      (outcome : Result (Unit {0}) (ReplayStop F)) (page_of : K → TextPage W) (writer : W)
+      (old new : K) → (page_of old).writer ≡ writer → (page_of old).text.items ≡ []
+      → AnswersRun reading parsing (record {
+        takes = λ s told t.
+            TakesText timed_line writing.adds writing.failures (page_of s) told (page_of t);
+        fails = λ s told t.
+            FailsText timed_line writing.adds writing.failures (page_of s) told (page_of t);
+      }) (λ s. (page_of s).text.items ≡ []) config (facts_of_run config) from to start finish old
+      new outcome
+      → PrintsAllRows reading writing S F parsing config from to start finish writer
+      (page_of new).writer outcome
+  lines_print {R} {S} {F} {K} reading parsing config from to start finish outcome page_of writer
+      old new same none run =
+      let p = page_of old in
+      let q = page_of new in
+      run_as reading parsing config (facts_of_run config) (record {
+        takes = λ s told t.
+            TakesText timed_line writing.adds writing.failures (page_of s) told (page_of t);
+        fails = λ s told t.
+            FailsText timed_line writing.adds writing.failures (page_of s) told (page_of t);
+      }) (λ s. (page_of s).text.items ≡ []) (printing writing text_told) (λ output. ⊤) old new
+      writer q.writer (record {
+        took = λ told took.
+            let text = text_told told in
+            let shown = took.0.shown in
+            let all : text ≡ shown =
+            ap (λ (l : List ℕ). l ++ text) (sym none) ∙ took.0.all
+            ∙ ap (λ (l : List ℕ). shown ++ l) took.1 ∙ append-nil shown in (
+              subst (λ (l : List ℕ). writing.adds writer l q.writer) (sym all)
+                  (subst (λ (w : W). writing.adds w shown q.writer) same took.0.wrote),
+              tt,
+            );
+        failed = λ told failed.
+            page_failed writer (text_told told) p q same
+            (subst (λ (l : List ℕ). FailsPage writing.adds writing.failures p
+            (l ++ text_told told) q) none failed);
+        same = λ kept. ap (λ (k : K). (page_of k).writer) kept ∙ same;
+      }) from to start finish outcome run
 
   -- a sink of rows of a maker
   module _ {M : Type 0} (makes : M → List TimedEvent → List ℕ → M → Type 0)

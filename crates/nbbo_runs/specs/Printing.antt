@@ -17,6 +17,7 @@ use Rattle.event_sinks.specs.SinkEvents.{TimedEvent}
 use Rattle.period_rows.specs.BestRows.{text_of_bests}
 use Rattle.period_rows.specs.CountRows.{text_of_counts}
 use Rattle.period_rows.specs.CountStates.{state_told}
+use Rattle.line_gaps.specs.VenueFits.{AreNewGaps}
 use Rattle.gap_rows.specs.GapCells.{gap_names}
 use Rattle.gap_rows.specs.GapMakers.{TellsGaps}
 use Rattle.gap_rows.specs.declared.gap_maker.GapMaker.{GapMaker}
@@ -82,11 +83,13 @@ pub record IsSinkBefore {W M C : Type 0} (Are : C → List TimedEvent → M → 
   pub is : IsNewRowSink writer sink.maker header sink
   pub are : Are setting [] sink.maker
 
--- A sink of rows of gaps in this format that was made before a writer.
-pub record IsGapSink {W : Type 0} (format : RowFormat) (writer : W) (sink : RowSink W GapMaker)
-    : Type 0 where
+-- A sink of rows of gaps of this many venues, of which nothing came, in this format, that was made
+-- before a writer.
+pub record IsGapSink {W : Type 0} (format : RowFormat) (venues : ℕ) (writer : W)
+    (sink : RowSink W GapMaker) : Type 0 where
   pub is : IsNewRowSink writer sink.maker (header_text format gap_names) sink
   pub format_is : sink.maker.format ≡ format
+  pub are_new : AreNewGaps venues sink.maker.venues.items
 
 -- ---- statistics
 
@@ -193,41 +196,44 @@ PrintsStatistics reading writing timed span S F parsing config =
     PrintsFigures reading writing parsing config
     (λ told. IsStatsText config timed (span_events span told))
 
--- the header, and then the rows of the gaps that venues end at these events
-pub record IsGapText (format : RowFormat) (told : List TimedEvent) (text : List ℕ) : Type 0 where
+-- the header, and then the rows of the gaps that this many venues, of which nothing came before,
+-- end at these events
+pub record IsGapText (format : RowFormat) (venues : ℕ) (told : List TimedEvent) (text : List ℕ)
+    : Type 0 where
   pub maker : GapMaker
   pub format_is : maker.format ≡ format
+  pub are_new : AreNewGaps venues maker.venues.items
   pub rows : List ℕ
   pub tells : TellsGaps maker told rows
   pub is : text ≡ header_text format gap_names ++ rows
 
 -- A writer took a front of the text of the gaps of the first events, and then failed.
-pub record FailsGaps {W : Type 0} (writing : Writing W) (format : RowFormat)
+pub record FailsGaps {W : Type 0} (writing : Writing W) (format : RowFormat) (venues : ℕ)
     (told : List TimedEvent) (before after : W) : Type 0 where
   pub first : List TimedEvent
   pub rest : List TimedEvent
   pub all : told ≡ first ++ rest
   pub text : List ℕ
-  pub is : IsGapText format first text
+  pub is : IsGapText format venues first text
   pub wrote : Wrote writing.adds before text after
   pub failed : writing.failures after ≡ writing.failures before + 1
 
--- A writer takes the text of the gaps of events; or it fails.
-abbrev pub printing_gaps : {W : Type 0} → Writing W → RowFormat → SinkTaking W
-printing_gaps writing format = record {
+-- A writer takes the text of the gaps of this many venues at events; or it fails.
+abbrev pub printing_gaps : {W : Type 0} → Writing W → RowFormat → ℕ → SinkTaking W
+printing_gaps writing format venues = record {
   takes = λ before told after.
-      (text : List ℕ) × IsGapText format told text × writing.adds before text after;
-  fails = λ before told after. FailsGaps writing format told before after;
+      (text : List ℕ) × IsGapText format venues told text × writing.adds before text after;
+  fails = λ before told after. FailsGaps writing format venues told before after;
 }
 
--- the rows that a sink prints: a text of events, or the rows of gaps
+-- the rows that a sink prints: a text of events, or the rows of the gaps of so many venues
 pub data PrintedRows : Type 0 where
   rows_of_text : (List TimedEvent → List ℕ) → PrintedRows
-  rows_of_gaps : RowFormat → PrintedRows
+  rows_of_gaps : RowFormat → ℕ → PrintedRows
 
 abbrev pub printing_rows : {W : Type 0} → Writing W → PrintedRows → SinkTaking W
 printing_rows writing (rows_of_text text_of) = printing writing text_of
-printing_rows writing (rows_of_gaps format) = printing_gaps writing format
+printing_rows writing (rows_of_gaps format venues) = printing_gaps writing format venues
 
 -- A new sink prints these rows: where it shows all that it took, the writer took them, and where it
 -- failed, the writer did.
@@ -244,10 +250,11 @@ pub record WritesRows {W M : Type 0} (writing : Writing W)
       → FailsRows tells writing.adds writing.failures sink told after
       → (printing_rows writing rows).fails writer told after.page.writer
 
--- the rows of the gaps of the events in a span
+-- the rows of the gaps of all venues at the events in a span
 abbrev pub PrintsGapRows : {R W : Type 0} → Reading R → Writing W → RowFormat → TimeSpan
     → Output R W
-PrintsGapRows reading writing format = PrintsRows reading (printing_gaps writing format)
+PrintsGapRows reading writing format span S F parsing config =
+    PrintsRows reading (printing_gaps writing format (venues_in config)) span S F parsing config
 
 -- the rows of the periods in a span
 abbrev pub PrintsPeriods : {R W : Type 0} → Reading R → Writing W → PeriodStyle → TimeSpan

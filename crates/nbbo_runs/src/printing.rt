@@ -12,7 +12,7 @@ ghost use Rattle.replay_reports.specs.BestRowMakers.{IsInStyle};
 ghost use Rattle.report_rows.specs.RowTexts.{header_text};
 ghost use Rattle.replay_run.specs.Printed.{facts_of_run};
 ghost use Rattle.run_notes.specs.AbsentSymbols.{symbols_with};
-ghost use Rattle.nbbo_runs.specs.Printing.{IsGapSink, IsSinkBefore, PrintedRows, PrintsAllRows, PrintsAsked, PrintsPeriods, PrintsRows, PrintsStatistics, PrintsText, PrintsWatched, WritesRows, counting_late, late_told, output_asked, printing_rows};
+ghost use Rattle.nbbo_runs.specs.Printing.{IsGapSink, IsSinkBefore, PrintedRows, PrintsAsked, PrintsPeriods, PrintsRows, PrintsStatistics, PrintsText, PrintsWatched, WritesRows, counting_late, late_told, output_asked, printing_rows};
 
 use crate::config::{RunConfig, config_of};
 use crate::fed_sink::FedSink;
@@ -27,7 +27,7 @@ use line_gaps::new_gaps;
 use period_rows::{BestMaker, PeriodCounter, new_best_rows, new_count_rows};
 use replay_reports::{BestRowMaker, ReplayStats, new_best_row_sink};
 use report_rows::{RowMaker, RowSink};
-use run_settings::{PeriodStyle, ReportFormat, RowFormat, RunOutput, RunSettings};
+use run_settings::{BestFormat, PeriodStyle, ReportFormat, RowFormat, RunOutput, RunSettings};
 use std::alloc::{AllocError, Global};
 use text_out::{CaptureIn, LineBuffer, TextOut, write_all};
 
@@ -78,50 +78,18 @@ fn page_before<W>(alloc: Global, output: W) -> Result<TextPage<W>, W>
     }
 }
 
-/// Replays a capture, and prints all lines. Returns the output beside the outcome. What is
-/// missing at the end is left in `missing`.
-fn print_lines<R: CaptureIn, F: RecordFormat, W: TextOut>(
-    alloc: Global,
-    config: &RunConfig<'_>,
-    format: &mut F,
-    input: &mut R,
-    output: W,
-    missing: &mut Missing,
-) -> Replayed<W, F::Fault>
-    requires can { CanReplay config.now.replay }
-    requires of_venues { F.venues format.old ≡ venues_in config.now.replay }
-    ensures { PrintsWatched
-        (reading_of R.CaptureIn)
-        (record { reads = F.reads; wants = F.wants; is_bad = F.is_bad; is_whole = F.is_whole })
-        (PrintsAllRows
-        (reading_of R.CaptureIn) (writing_of W.TextOut)) config.now.replay
-        input.old input.new format.old format.new output result.sink missing.old missing.new
-        result.outcome }
-{
-    let page = match page_before(alloc, output) {
-        Ok(page) => page,
-        Err(output) => return without_memory(output),
-    };
-    let replayed = replay_watched(
-        alloc,
-        &config.replay,
-        format,
-        input,
-        TextSink::new(page),
-        missing,
-    );
-    Replayed {
-        sink: replayed.sink.into_writer(),
-        outcome: replayed.outcome,
-    }
-}
-
 /// The rows of best lines, before the output. Where memory is refused the output is returned.
-fn rows_before<W>(alloc: Global, style: RowStyle, output: W) -> Result<RowSink<W, BestRowMaker>, W>
+fn rows_before<W>(
+    alloc: Global,
+    format: BestFormat,
+    timed: bool,
+    output: W,
+) -> Result<RowSink<W, BestRowMaker>, W>
     ensures rows { IfOk result (IsSinkBefore IsInStyle
-        (header_of style.format style.timed) style output) }
+        (header_of format timed) (record { format = format; timed = timed }) output) }
     ensures refused { IfErr result (λ back. back ≡ output) }
 {
+    let style = RowStyle { format, timed };
     match page_before(alloc, output) {
         Ok(page) => Ok(new_best_row_sink(page, style)),
         Err(output) => Err(output),
@@ -135,7 +103,7 @@ fn gaps_before<W>(
     format: RowFormat,
     output: W,
 ) -> Result<RowSink<W, GapMaker>, W>
-    ensures rows { IfOk result (IsGapSink format output) }
+    ensures rows { IfOk result (IsGapSink format (venues_in config.now.replay) output) }
     ensures refused { IfErr result (λ back. back ≡ output) }
 {
     let Ok(venues) = new_gaps(alloc, config.replay.sessions.len()) else {
@@ -312,8 +280,8 @@ pub fn write_text<W: TextOut, F>(
 /// How statistics are printed, and whether the records have times.
 #[derive(Clone, Copy)]
 struct StatsForm {
-    format: ReportFormat,
-    has_times: bool,
+    rows: ReportFormat,
+    timed: bool,
 }
 
 /// Returns the text of statistics, nothing where a run failed before anything came.
@@ -346,14 +314,14 @@ fn print_stats<R: CaptureIn, F: RecordFormat, W: TextOut>(
         (reading_of R.CaptureIn)
         (record { reads = F.reads; wants = F.wants; is_bad = F.is_bad; is_whole = F.is_whole })
         (PrintsStatistics
-        (reading_of R.CaptureIn) (writing_of W.TextOut) form.has_times config.now.span)
+        (reading_of R.CaptureIn) (writing_of W.TextOut) form.timed config.now.span)
         config.now.replay
         input.old input.new format.old format.new output result.sink missing.old missing.new
         result.outcome }
 {
     let venues = config.replay.sessions.len();
     let window = config.replay.window as usize;
-    let Ok(stats) = ReplayStats::new(alloc, venues, window, form.has_times) else {
+    let Ok(stats) = ReplayStats::new(alloc, venues, window, form.timed) else {
         return without_memory(output);
     };
     let fed = FedSink {
@@ -362,7 +330,7 @@ fn print_stats<R: CaptureIn, F: RecordFormat, W: TextOut>(
     };
     let replayed = replay_in_span(alloc, config, format, input, fed, missing);
     let is_whole = replayed.outcome.is_ok();
-    let text = stats_text(alloc, &replayed.sink, form.format, is_whole);
+    let text = stats_text(alloc, &replayed.sink, form.rows, is_whole);
     let printed = write_text(text, &mut output);
     Replayed {
         sink: output,
@@ -395,15 +363,20 @@ pub fn print<R: CaptureIn, F: RecordFormat, W: TextOut + Drop>(
     let config = config_of(settings);
     let timed = is_packet_input(&settings.input);
     match settings.output {
-        RunOutput::Lines => {
-            without_periods(print_lines(alloc, &config, format, input, output, missing))
-        }
+        RunOutput::Lines => match page_before(alloc, output) {
+            Ok(page) => {
+                let sink = TextSink::new(page);
+                let replayed = replay_watched(alloc, &config.replay, format, input, sink, missing);
+                Printed {
+                    output: replayed.sink.into_writer(),
+                    outcome: replayed.outcome,
+                    late: 0,
+                }
+            }
+            Err(output) => without_periods(without_memory(output)),
+        },
         RunOutput::Bests(rows) => {
-            let style = RowStyle {
-                format: rows,
-                timed,
-            };
-            let made = rows_before(alloc, style, output);
+            let made = rows_before(alloc, rows, timed, output);
             without_periods(print_rows(alloc, &config, made, format, input, missing))
         }
         RunOutput::Periods(style) => {
@@ -414,10 +387,7 @@ pub fn print<R: CaptureIn, F: RecordFormat, W: TextOut + Drop>(
             without_periods(print_rows(alloc, &config, made, format, input, missing))
         }
         RunOutput::Stats(rows) => {
-            let form = StatsForm {
-                format: rows,
-                has_times: timed,
-            };
+            let form = StatsForm { rows, timed };
             without_periods(print_stats(alloc, &config, form, format, input, output, missing))
         }
         RunOutput::Gaps(rows) => {

@@ -19,14 +19,12 @@ use capture_records::{Record, RecordFormat, Step};
 use event_sinks::ReplayStop;
 use feed_types::{LineId, SessionName, VenueId, is_same_name};
 use message_forms::{Payload, look_after};
+use mold_packet::HEADER_LEN;
 use run_settings::{NextSession, RunInput, RunSettings};
 use text_out::{TextOut, write_number, write_stderr};
 
 /// The most venues of a capture.
 const VENUES: usize = 16;
-
-/// The bytes of a packet's header.
-const HEADER: usize = 20;
 
 /// A format of captures, and what is watched of the datagrams that it reads: which lines have one,
 /// what the venues' messages look like, and which are of another session than their venue's first.
@@ -110,7 +108,7 @@ fn name_in(bytes: &[u8]) -> Option<&SessionName>
     ensures found { IfSome result (λ name. name_in bytes.now ≡ Some name.now) }
     ensures none { IfNone result (name_in bytes.now ≡ None) }
 {
-    if bytes.len() < HEADER {
+    if bytes.len() < HEADER_LEN {
         return None;
     }
     bytes.first_chunk::<10>()

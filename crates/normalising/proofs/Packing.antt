@@ -1,28 +1,26 @@
 -- Packets that carry items, one after another.
-use Rattle.std.proofs.Common.{◌≡◌, ◌⊎◌, ℕ, ◌+◌, ◌≤◌, Bor, List, [], ◌∷◌, ◌++◌, length, map, take, drop, refl, sym, ap, ap₂, subst, ◌∙◌, inl, inr, arith, Result, Ok, Err, IfErr, OnErr, append-nil, append_assoc, length-drop}
+use Rattle.std.proofs.Common.{◌≡◌, ◌⊎◌, ℕ, ◌+◌, ◌≤◌, List, [], ◌∷◌, ◌++◌, length, map, take, drop, refl, sym, ap, ap₂, subst, ◌∙◌, inl, inr, arith, Result, Ok, Err, IfErr, OnErr, append-nil, append_assoc}
 use Rattle.std.specs.List.{AllByRecursion}
-use Rattle.std.proofs.lemmas.List.{map-append, take_all}
+use Rattle.std.proofs.lemmas.List.{map-append}
 use Rattle.std.proofs.lemmas.List.Concat.{flat_map-append}
 use Rattle.feed_types.specs.declared.item.Item.{Item}
 use Rattle.feed_types.specs.declared.item.Numbered.{Numbered}
 use Rattle.feed_types.specs.Sessions.{numbered_from, end_item}
 use Rattle.text_out.specs.Devices.{Writing, Wrote}
 use Rattle.mold_packet.specs.declared.packet.Kind.TheVariants as kinds
-use Rattle.mold_packet.specs.Body.{body_kind, body_messages, lent_bytes, packet_of}
+use Rattle.mold_packet.specs.Body.{body_kind, body_messages, packet_of}
 use Rattle.mold_packet.specs.declared.body.Body.{Body}
 use Rattle.mold_packet.specs.Content.{Content, IsContent, Spells, spelling}
 use Rattle.quote_payload.specs.Payload.{item_of}
 use Rattle.normalising.specs.Carried.{AreWritten, BeatsAt, IsMessageItem, RunsFrom, end_of_kind, items_carried}
-use Rattle.item_packets.specs.laws.Parts.{all_append, items_carried_more, row_back, row_front}
+use Rattle.item_packets.specs.laws.Parts.{all_append, row_back, row_front}
+use Rattle.item_packets.specs.laws.Adding.{carried_next}
+use Rattle.item_packets.specs.Filled.{packet_of as row_packet}
 use Rattle.normalising.specs.Texts.{datagram_text}
-use Rattle.normalising.specs.Writes.{PutsFront, PutsPackets, PutsText, StopsPut, text_of}
+use Rattle.normalising.specs.Writes.{PutsFront, PutsPackets, PutsText, text_of}
 use Rattle.normalising.specs.declared.output_form.OutputForm.{OutputForm}
 use Rattle.normalising.specs.declared.packet_origin.PacketOrigin.{PacketOrigin}
-use Rattle.normalising.specs.declared.venue_stop.VenueStop.{VenueStop}
-use Rattle.normalising.specs.declared.venue_stop.VenueStop.TheVariants.{Book, Sink}
 use Rattle.normalising.proofs.Taking.{takes_both, wrote_after}
-
--- ---- lists
 
 -- ---- packets
 
@@ -98,32 +96,25 @@ puts_both writing form origin last xs ys from mid to old between new adds_more a
 
 -- ---- messages in packets
 
--- one packet more
+-- one packet of a row's next items more
 pub packet_more : {W : Type 0} (writing : Writing W)
     → ((s t u : W) (cs bs : List ℕ) → writing.adds s cs t → writing.adds t bs u
     → writing.adds s (cs ++ bs) u)
-    → (form now : OutputForm) (origin : PacketOrigin) (last number from k : ℕ)
-    (messages rest : List (Bor (List ℕ))) (bytes : List ℕ) (w1 w2 w3 : W) (p1 p2 p3 : List ℕ)
-    → now ≡ form → from ≤ length messages → rest ≡ drop from messages
-    → PutsPackets writing form origin last
-    (numbered_from number (map item_of (lent_bytes (take from messages)))) w1 w2 p1 p2
-    → Spells bytes (record {
-      session = origin.session;
-      number = number + from;
-      kind = kinds.Messages;
-      messages = lent_bytes (take k rest);
-      ignored = 0;
-    }) []
+    → (form now : OutputForm) (origin : PacketOrigin) (last number from n : ℕ)
+    (items rest : List Numbered) (its : List Item) (bytes : List ℕ) (w1 w2 w3 : W)
+    (p1 p2 p3 : List ℕ) → now ≡ form
+    → items ≡ numbered_from number its → AllByRecursion IsMessageItem its → rest ≡ drop from items
+    → PutsPackets writing form origin last (take from items) w1 w2 p1 p2
+    → Spells bytes (row_packet origin.session (number + from) n rest) []
+    → ((more : List Item) → rest ≡ numbered_from (number + from) more
+    → AllByRecursion IsMessageItem more
+    → items_carried (row_packet origin.session (number + from) n rest) ≡ take n rest)
     → PutsText writing w2 w3 p2 (datagram_text now origin.venue origin.time bytes) p3
-    → PutsPackets writing form origin last
-    (numbered_from number (map item_of (lent_bytes (take (from + k) messages)))) w1 w3 p1 p3
-packet_more writing adds_more form now origin last number from k messages rest bytes w1 w2 w3 p1 p2
-    p3 same within is before spelled taken =
+    → PutsPackets writing form origin last (take (from + n) items) w1 w3 p1 p3
+packet_more writing adds_more form now origin last number from n items rest its bytes w1 w2 w3 p1 p2
+    p3 same is each after before spelled carried taken =
     subst (λ (z : List Numbered). PutsPackets writing form origin last z w1 w3 p1 p3)
-    (ap (λ (r : List (Bor (List ℕ))).
-    numbered_from number (map item_of (lent_bytes (take from messages)))
-    ++ (numbered_from (number + from) (map item_of (lent_bytes (take k r))) ++ [])) is
-    ∙ items_carried_more messages number from k within)
+    (carried_next origin.session number from n items rest its is each after carried)
     (puts_both writing form origin last _ _ w1 w2 w3 p1 p2 p3 adds_more before
     (puts_one writing form origin last w2 w3 p2 p3 _ bytes spelled refl (λ e. absurd cc)
     (subst (λ (f : OutputForm).
@@ -257,25 +248,6 @@ front_longer writing form origin last xs ys from to old a = record {
   failed = a.failed;
 }
 
--- the messages up to a place, and those from there on
-pub carried_split : (messages : List (Bor (List ℕ))) (number from : ℕ) → from ≤ length messages
-    → numbered_from number (map item_of (lent_bytes (take from messages)))
-    ++ numbered_from (number + from) (map item_of (lent_bytes (drop from messages)))
-    ≡ numbered_from number (map item_of (lent_bytes messages))
-carried_split messages number from within =
-    let back = drop from messages in
-    ap (λ (r : List (Bor (List ℕ))).
-    numbered_from number (map item_of (lent_bytes (take from messages)))
-    ++ numbered_from (number + from) (map item_of (lent_bytes r)))
-    (sym (take_all (length messages) back (let l = length-drop from messages in omega (arith, l))))
-    ∙ ap (λ (z : List Numbered).
-    numbered_from number (map item_of (lent_bytes (take from messages))) ++ z)
-    (sym (append-nil (numbered_from (number + from)
-    (map item_of (lent_bytes (take (length messages) back))))))
-    ∙ items_carried_more messages number from (length messages) within
-    ∙ ap (λ (r : List (Bor (List ℕ))). numbered_from number (map item_of (lent_bytes r)))
-    (take_all (from + length messages) messages (omega arith))
-
 pub front_on_err : {W A E : Type 0} (writing : Writing W) (form : OutputForm)
     (origin : PacketOrigin) (output : List Numbered) (from to : W) (old : List ℕ)
     (r : Result A E) → OnErr r (Wrote writing.adds from old to)
@@ -294,25 +266,21 @@ pub on_err_weaker_of : {A E P Q : Type 0} (r : Result A E) → (P → Q) → OnE
 on_err_weaker_of (Ok x) f p = tt
 on_err_weaker_of (Err e) f p = f p
 
--- what stopped the messages of a row stopped the row
+-- the writer failed in the messages of a row
 pub run_stopped : {W : Type 0} (writing : Writing W) (form : OutputForm) (origin : PacketOrigin)
-    (last first count : ℕ) (items front rest : List Numbered) (w1 w2 : W) (p1 p2 : List ℕ)
-    (stop : VenueStop) → (run : RunsFrom first items) → 1 ≤ first → count ≡ length run.items
+    (last first count : ℕ) (items front rest : List Numbered) (w1 w2 : W) (p1 : List ℕ)
+    → (run : RunsFrom first items) → 1 ≤ first → count ≡ length run.items
     → front ≡ take count items → rest ≡ drop count items
     → ((last first : ℕ) (its : List Item) → 1 ≤ first → front ≡ numbered_from first its
     → AllByRecursion IsMessageItem its
-    → StopsPut writing form origin last front w1 w2 p1 p2 stop)
-    → StopsPut writing form origin last items w1 w2 p1 p2 stop
-run_stopped writing form origin last first count items front rest w1 w2 p1 p2 (Sink stop) run one
-    len fronts rests stopped =
+    → PutsFront writing form origin last front w1 w2 p1)
+    → PutsFront writing form origin last items w1 w2 p1
+run_stopped writing form origin last first count items front rest w1 w2 p1 run one len fronts rests
+    stopped =
     let p = parted first count items front rest run len fronts rests in
     subst (λ (z : List Numbered). PutsFront writing form origin last z w1 w2 p1) p.whole
     (front_longer writing form origin last front rest w1 w2 p1
     (stopped last first run.items one p.row run.each))
-run_stopped writing form origin last first count items front rest w1 w2 p1 p2 (Book fault) run one
-    len fronts rests stopped =
-    let p = parted first count items front rest run len fronts rests in
-    stopped last first run.items one p.row run.each
 
 -- the writer failed at the end of a row
 pub end_stopped : {W : Type 0} (writing : Writing W)

@@ -8,7 +8,7 @@ use Rattle.mold_packet.specs.declared.packet.Kind.TheVariants as kinds
 use Rattle.mold_packet.specs.Content.{Content, spelling}
 use Rattle.venue_normaliser.specs.Brought.{before_skip_past}
 use Rattle.venue_normaliser.specs.Outputs.{Opening}
-pub use Rattle.item_packets.specs.Carried.{Carry, IsMessageItem, IsShortMessage, RunsFrom}
+pub use Rattle.item_packets.specs.Carried.{Carry, IsMessageItem, RunsFrom}
 pub use Rattle.item_packets.specs.Carried.{end_of_kind, items_carried, numbered_item}
 
 -- the number of the last message that is put out of a session, which began so: the one before its

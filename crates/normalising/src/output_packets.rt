@@ -1,78 +1,64 @@
 //! Items as packets.
-ghost use Rattle.std.specs.Prelude.{◌≡◌, ◌⊎◌, ℕ, ◌+◌, ◌^◌, ◌≤◌, List, [], ◌∷◌, length, map, IfErr, IfOk, OnErr, OnOk};
+ghost use Rattle.std.specs.Prelude.{◌≡◌, ◌⊎◌, ℕ, ◌+◌, ◌^◌, ◌≤◌, List, [], ◌∷◌, length, IfOk, OnErr, OnOk};
 ghost use Rattle.std.specs.List.{AllByRecursion};
 ghost use Rattle.feed_types.specs.declared.item.Item.{Item};
 ghost use Rattle.feed_types.specs.Sessions.{end_item, numbered_from};
-ghost use Rattle.mold_packet.specs.Body.{lent_bytes, body_kind, body_messages};
+ghost use Rattle.mold_packet.specs.Body.{body_kind, body_messages};
 ghost use Rattle.mold_packet.specs.declared.packet.Kind.TheVariants as kinds;
-ghost use Rattle.quote_payload.specs.Payload.{item_of};
-ghost use Rattle.venue_normaliser.specs.Forms.{form_bytes};
-ghost use Rattle.normalising.specs.Carried.{IsMessageItem, IsShortMessage, RunsFrom, end_of_kind};
+ghost use Rattle.normalising.specs.Carried.{IsMessageItem, RunsFrom, end_of_kind};
 ghost use Rattle.capture_records.specs.Capture.{renewal_record, self_help_record};
 ghost use Rattle.text_out.specs.Devices.{Wrote};
 ghost use Rattle.text_out.specs.Members.{writing_of};
 ghost use Rattle.normalising.specs.Texts.{begun_text, record_text};
-ghost use Rattle.normalising.specs.Writes.{PutsFront, PutsPackets, PutsText, StopsPut};
+ghost use Rattle.normalising.specs.Writes.{PutsFront, PutsPackets, PutsText};
 
 use crate::output_form::OutputForm;
 use crate::output_page::OutputPage;
 use crate::packet_origin::PacketOrigin;
-use crate::venue_stop::VenueStop;
 use capture_writing::MOST_BYTES;
 use event_sinks::SinkStop;
 use feed_types::{Numbered, SessionName, VenueId};
-use itch_book::BookFault;
-use item_packets::{end_number, fill_forms, first_number, lend_all, messages_before_end};
+use item_packets::{end_number, first_number, messages_before_end, write_items};
 use mold_packet::{Body, write_packet};
-use packet_building::build_packet;
 use std::alloc::{AllocError, Global};
 use text_out::TextOut;
-use venue_normaliser::MessageForm;
 
 /// The output that waits, and the room in which its packets are made.
 #[derive(Drop)]
 pub(crate) struct OutputPackets<'a> {
     pub(crate) page: OutputPage<'a>,
     packet: Vec<u8>,
-    forms: Vec<MessageForm>,
-    alloc: Global,
     pub ghost has_room: { length packet.items ≡ 65507 },
 }
 
-/// Writes the packets of messages from a number on, as few as can be.
+/// Writes the packets of messages in a row from a number on, as few as can be.
 fn put_messages<W: TextOut>(
     page: &mut OutputPage<'_>,
     origin: &PacketOrigin,
     number: u64,
-    messages: &[&[u8]],
+    items: &[Numbered],
     packet: &mut [u8],
     writer: &mut W,
 ) -> Result<(), SinkStop>
     requires from_one { 1 ≤ number }
-    requires in_range { number + length messages.now ≤ 2 ^ 64 }
-    requires short { AllByRecursion IsShortMessage (lent_bytes messages.now) }
+    requires in_range { number + length items.now ≤ 2 ^ 64 }
     requires room { length packet.old ≡ 65507 }
-    ensures put { OnOk result ((last : ℕ) → PutsPackets
-        (writing_of W.TextOut) page.old.form origin.now last
-        (numbered_from number (map item_of (lent_bytes messages.now)))
+    ensures put { OnOk result ((last : ℕ) (its : List Item)
+        → items.now ≡ numbered_from number its → AllByRecursion IsMessageItem its → PutsPackets
+        (writing_of W.TextOut) page.old.form origin.now last items.now
         writer.old writer.new page.old.page page.new.page) }
-    ensures front { OnErr result ((last : ℕ) → PutsFront
-        (writing_of W.TextOut) page.old.form origin.now last
-        (numbered_from number (map item_of (lent_bytes messages.now)))
+    ensures front { OnErr result ((last : ℕ) (its : List Item)
+        → items.now ≡ numbered_from number its → AllByRecursion IsMessageItem its → PutsFront
+        (writing_of W.TextOut) page.old.form origin.now last items.now
         writer.old writer.new page.old.page) }
     ensures form { page.new.form ≡ page.old.form }
     ensures room { length packet.new ≡ 65507 }
 {
     let mut from = 0;
-    'packets: while from < messages.len() {
-        let rest = &messages[from..];
-        match build_packet(&origin.session, number + from as u64, rest, packet) {
-            Some(built) => {
-                page.put_datagram(origin, &packet[..built.len], writer)?;
-                from += built.messages;
-            }
-            None => unreachable!(),
-        }
+    'packets: while from < items.len() {
+        let written = write_items(&origin.session, number + from as u64, &items[from..], packet);
+        page.put_datagram(origin, &packet[..written.len], writer)?;
+        from += written.count;
     }
     Ok(())
 }
@@ -116,13 +102,7 @@ impl<'a> OutputPackets<'a> {
     {
         let page = OutputPage::new(alloc, form)?;
         let packet = vec![in alloc; 0u8; MOST_BYTES]?;
-        let forms = Vec::with_capacity(alloc, 65_536)?;
-        Ok(OutputPackets {
-            page,
-            packet,
-            forms,
-            alloc,
-        })
+        Ok(OutputPackets { page, packet })
     }
 
     /// Writes all that waits.
@@ -200,67 +180,30 @@ impl<'a> OutputPackets<'a> {
         put_without_messages(&mut self.page, origin, number, body, packet, writer)
     }
 
-    /// Writes the packets of the messages that the forms are.
-    fn put_forms<W: TextOut>(
-        &mut self,
-        origin: &PacketOrigin,
-        number: u64,
-        writer: &mut W,
-    ) -> Result<(), VenueStop>
-        requires from_one { 1 ≤ number }
-        requires in_range { number + length self.old.forms.items ≤ 2 ^ 64 }
-        ensures put { OnOk result ((last : ℕ) → PutsPackets
-            (writing_of W.TextOut) self.old.page.form origin.now last
-            (numbered_from number (map (λ f. item_of (form_bytes f)) self.old.forms.items))
-            writer.old writer.new self.old.page.page self.new.page.page) }
-        ensures stopped { IfErr result (λ stop. (last : ℕ) → StopsPut
-            (writing_of W.TextOut) self.old.page.form origin.now last
-            (numbered_from number (map (λ f. item_of (form_bytes f)) self.old.forms.items))
-            writer.old writer.new self.old.page.page self.new.page.page stop) }
-        ensures form { self.new.page.form ≡ self.old.page.form }
-    {
-        let messages = match lend_all(self.alloc, self.forms.as_slice()) {
-            Ok(messages) => messages,
-            Err(_) => return Err(VenueStop::Book(BookFault::NoMemory)),
-        };
-        let packet = self.packet.as_mut_slice();
-        put_messages(
-            &mut self.page,
-            origin,
-            number,
-            messages.as_slice(),
-            packet,
-            writer,
-        )?;
-        Ok(())
-    }
-
     /// Writes the packets of messages in a row.
     fn put_run<W: TextOut>(
         &mut self,
         origin: &PacketOrigin,
         items: &[Numbered],
         writer: &mut W,
-    ) -> Result<(), VenueStop>
+    ) -> Result<(), SinkStop>
         ensures put { OnOk result ((last first : ℕ) (its : List Item)
             → 1 ≤ first → items.now ≡ numbered_from first its
             → AllByRecursion IsMessageItem its → PutsPackets
             (writing_of W.TextOut) self.old.page.form origin.now last
             items.now writer.old writer.new self.old.page.page self.new.page.page) }
-        ensures stopped { IfErr result (λ stop. (last first : ℕ) (its : List Item)
+        ensures front { OnErr result ((last first : ℕ) (its : List Item)
             → 1 ≤ first → items.now ≡ numbered_from first its
-            → AllByRecursion IsMessageItem its → StopsPut
+            → AllByRecursion IsMessageItem its → PutsFront
             (writing_of W.TextOut) self.old.page.form origin.now last
-            items.now writer.old writer.new self.old.page.page self.new.page.page stop) }
+            items.now writer.old writer.new self.old.page.page) }
         ensures form { self.new.page.form ≡ self.old.page.form }
     {
         let Some(number) = first_number(items) else {
             return Ok(());
         };
-        if let Err(_error) = fill_forms(&mut self.forms, items) {
-            return Err(VenueStop::Book(BookFault::NoMemory));
-        }
-        self.put_forms(origin, number, writer)
+        let packet = self.packet.as_mut_slice();
+        put_messages(&mut self.page, origin, number, items, packet, writer)
     }
 
     /// Writes the end of a session, where there is one.
@@ -292,20 +235,19 @@ impl<'a> OutputPackets<'a> {
         origin: &PacketOrigin,
         items: &[Numbered],
         writer: &mut W,
-    ) -> Result<(), VenueStop>
+    ) -> Result<(), SinkStop>
         ensures put { OnOk result ((last first : ℕ) → 1 ≤ first
             → RunsFrom first items.now → PutsPackets
             (writing_of W.TextOut) self.old.page.form origin.now last
             items.now writer.old writer.new self.old.page.page self.new.page.page) }
-        ensures stopped { IfErr result (λ stop. (last first : ℕ) → 1 ≤ first
-            → RunsFrom first items.now → StopsPut
+        ensures front { OnErr result ((last first : ℕ) → 1 ≤ first
+            → RunsFrom first items.now → PutsFront
             (writing_of W.TextOut) self.old.page.form origin.now last
-            items.now writer.old writer.new self.old.page.page self.new.page.page stop) }
+            items.now writer.old writer.new self.old.page.page) }
         ensures form { self.new.page.form ≡ self.old.page.form }
     {
         let count = messages_before_end(items);
         self.put_run(origin, &items[..count], writer)?;
-        self.put_end(origin, &items[count..], writer)?;
-        Ok(())
+        self.put_end(origin, &items[count..], writer)
     }
 }

@@ -4,9 +4,8 @@ ghost use Rattle.mold_packet.specs.Header.{count_at};
 ghost use Rattle.udp_lines.specs.EndsOfSessions.{SpellsEndOf};
 ghost use Rattle.udp_lines.specs.UdpLines.{IsLast};
 
-use crate::number_check::{END, HEADER};
 use feed_types::SessionName;
-use mold_packet::{Kind, one_reading, read_packet};
+use mold_packet::{END_COUNT, HEADER_LEN, Kind, one_reading, read_packet};
 use run_settings::EndRule;
 
 /// The count of a packet of these bytes, in the last two bytes of its header.
@@ -23,7 +22,7 @@ pub(crate) fn ended_session(bytes: &[u8]) -> Option<SessionName>
     ensures end { IfSome result (λ session. SpellsEndOf session bytes.now) }
     ensures only { (session : List ℕ) → SpellsEndOf session bytes.now → result ≡ Some session }
 {
-    if bytes.len() < HEADER || count_of(bytes) != END {
+    if bytes.len() < HEADER_LEN || count_of(bytes) != END_COUNT {
         return None;
     }
     one_reading();

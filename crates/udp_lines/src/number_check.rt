@@ -7,14 +7,8 @@ ghost use Rattle.udp_lines.specs.Plausible.{Covers, HasHeader, IsAnEnd, IsFar, I
 use crate::line_progress::LineProgress;
 use crate::venue_marks::{NOTHING_SEEN, OthersSeen, VenueMarks};
 use feed_types::{LineId, SessionName};
-use mold_packet::{Request, read_request, reads_back};
+use mold_packet::{END_COUNT, HEADER_LEN, Request, read_request, reads_back};
 use run_settings::EndRule;
-
-/// How many bytes a packet's header has.
-pub(crate) const HEADER: usize = 20;
-
-/// The count of an end of session.
-pub(crate) const END: u16 = 0xffff;
 
 /// How many times in a row a line brings what isn't plausible until it is taken for true.
 const TIMES: u8 = 3;
@@ -92,7 +86,7 @@ fn header_of(bytes: &[u8]) -> Option<Request>
     ensures only { (header : Request) → HasHeader bytes.now header → result ≡ Some header }
 {
     reads_back();
-    let front = bytes.get(..HEADER)?;
+    let front = bytes.get(..HEADER_LEN)?;
     match read_request(front) {
         Ok(header) => Some(header),
         Err(_) => None,
@@ -105,7 +99,7 @@ fn announced_by(header: &Request) -> u64
     requires { 1 ≤ header.now.number }
     ensures { result ≡ announced_by header.now }
 {
-    let messages = if header.count < END {
+    let messages = if header.count < END_COUNT {
         u64::from(header.count)
     } else {
         0

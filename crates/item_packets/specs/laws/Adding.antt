@@ -1,5 +1,5 @@
 -- Datagrams that carry items, one after another.
-use Rattle.std.proofs.Common.{◌≡◌, ◌⊎◌, ℕ, ◌+◌, ◌≤◌, Bor, List, [], ◌∷◌, ◌++◌, length, map, take, drop, refl, sym, ap, ap₂, subst, ◌∙◌, inl, inr, arith, append-nil, append_assoc}
+use Rattle.std.proofs.Common.{◌≡◌, ◌⊎◌, ℕ, ◌+◌, ◌≤◌, List, [], ◌∷◌, ◌++◌, length, map, take, drop, refl, sym, ap, ap₂, subst, ◌∙◌, inl, inr, arith, append-nil, append_assoc, take-add}
 use Rattle.std.specs.Prelude.{Vec}
 use Rattle.std.specs.List.{AllByRecursion}
 use Rattle.std.proofs.lemmas.List.{map-append}
@@ -8,12 +8,11 @@ use Rattle.feed_types.specs.declared.item.Item.{Item}
 use Rattle.feed_types.specs.declared.item.Numbered.{Numbered}
 use Rattle.feed_types.specs.Sessions.{numbered_from, end_item}
 use Rattle.mold_packet.specs.declared.packet.Kind.TheVariants as kinds
-use Rattle.mold_packet.specs.Body.{lent_bytes}
 use Rattle.mold_packet.specs.Content.{Content, IsContent, Spells, spelling}
-use Rattle.quote_payload.specs.Payload.{item_of}
 use Rattle.item_packets.specs.Carried.{IsMessageItem, RunsFrom, items_carried}
 use Rattle.item_packets.specs.Packed.{AddsPacked, ArePacked, IsNoHeartbeat, bytes_of_each}
-use Rattle.item_packets.specs.laws.Parts.{all_append, items_carried_more, row_back, row_front}
+use Rattle.item_packets.specs.Filled.{packet_of}
+use Rattle.item_packets.specs.laws.Parts.{all_append, all_dropped, rest_of_row, row_back, row_front}
 
 pub none_packed : (name : List ℕ) → ArePacked name [] []
 none_packed name = record {
@@ -77,27 +76,37 @@ adds_both name xs ys old between new a b = record {
       ∙ append_assoc (bytes_of_each old) a.datagrams b.datagrams;
 }
 
--- one packet of messages more
-pub packet_more : {A : Type 0} (name : List ℕ) (number from k : ℕ)
-    (messages rest : List (Bor (List ℕ))) (bytes : List ℕ) (p1 p2 p3 : List (Vec ℕ A))
-    → from ≤ length messages → rest ≡ drop from messages
-    → AddsPacked name (numbered_from number (map item_of (lent_bytes (take from messages)))) p1 p2
-    → Spells bytes (record {
-      session = name;
-      number = number + from;
-      kind = kinds.Messages;
-      messages = lent_bytes (take k rest);
-      ignored = 0;
-    }) []
+-- the items up to a place, and what the next packet carries
+pub carried_next : (name : List ℕ) (number from n : ℕ) (items rest : List Numbered)
+    (its : List Item) → items ≡ numbered_from number its → AllByRecursion IsMessageItem its
+    → rest ≡ drop from items
+    → ((more : List Item) → rest ≡ numbered_from (number + from) more
+    → AllByRecursion IsMessageItem more
+    → items_carried (packet_of name (number + from) n rest) ≡ take n rest)
+    → take from items ++ items_carried (packet_of name (number + from) n rest)
+    ≡ take (from + n) items
+carried_next name number from n items rest its is each after carried =
+    ap (λ (z : List Numbered). take from items ++ z)
+    (carried (drop from its) (after ∙ ap (drop from) is ∙ rest_of_row from number its)
+    (all_dropped IsMessageItem from its each)
+    ∙ ap (take n) after)
+    ∙ sym (take-add from n items)
+
+-- one packet of a row's next items more
+pub packet_more : {A : Type 0} (name : List ℕ) (number from n : ℕ) (items rest : List Numbered)
+    (its : List Item) (bytes : List ℕ) (p1 p2 p3 : List (Vec ℕ A))
+    → items ≡ numbered_from number its → AllByRecursion IsMessageItem its → rest ≡ drop from items
+    → AddsPacked name (take from items) p1 p2
+    → Spells bytes (packet_of name (number + from) n rest) []
+    → ((more : List Item) → rest ≡ numbered_from (number + from) more
+    → AllByRecursion IsMessageItem more
+    → items_carried (packet_of name (number + from) n rest) ≡ take n rest)
     → bytes_of_each p3 ≡ bytes_of_each p2 ++ bytes ∷ []
-    → AddsPacked name
-    (numbered_from number (map item_of (lent_bytes (take (from + k) messages)))) p1 p3
-packet_more name number from k messages rest bytes p1 p2 p3 within is before spelled added =
+    → AddsPacked name (take (from + n) items) p1 p3
+packet_more name number from n items rest its bytes p1 p2 p3 is each after before spelled carried
+    added =
     subst (λ (z : List Numbered). AddsPacked name z p1 p3)
-    (ap (λ (r : List (Bor (List ℕ))).
-    numbered_from number (map item_of (lent_bytes (take from messages)))
-    ++ (numbered_from (number + from) (map item_of (lent_bytes (take k r))) ++ [])) is
-    ∙ items_carried_more messages number from k within)
+    (carried_next name number from n items rest its is each after carried)
     (adds_both name _ _ p1 p2 p3 before
     (adds_one name _ bytes p2 p3 spelled refl (λ e. absurd cc) added))
 

@@ -1,6 +1,6 @@
 use Rattle.std.proofs.Common.{◌≡◌, length, refl, arith}
 use Rattle.std.specs.Int.{w16, w64, to_be_bytes}
-use Rattle.mold_packet.proofs.Overwriting.{three_parts}
+use Rattle.mold_packet.specs.laws.Overwriting.{three_parts}
 use Rattle.mold_packet.proofs.header.write_header.Goals as goal
 
 pub returns : goal.returns

@@ -1,6 +1,6 @@
 use Rattle.std.proofs.Common.{◌≡◌, length, arith}
 use Rattle.mold_packet.specs.laws.HeaderFields.{length-header}
-use Rattle.mold_packet.proofs.Overwriting.{writes_first, take_front}
+use Rattle.mold_packet.specs.laws.Overwriting.{writes_first, take_front}
 use Rattle.mold_packet.proofs.request.write_request.Goals as goal
 
 pub returns-clause-spelled : goal.returns-clause-spelled

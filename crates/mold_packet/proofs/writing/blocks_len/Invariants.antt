@@ -1,5 +1,5 @@
 use Rattle.std.proofs.Common.{◌≡◌, ◌*◌, ◌≤◌, length, take}
-use Rattle.mold_packet.proofs.Growing.{blocks_to}
+use Rattle.mold_packet.specs.laws.Growing.{blocks_to}
 use Rattle.mold_packet.proofs.writing.blocks_len.Given as goal
 
 abbrev pub invariant-loop-message : goal.invariant-loop-message

@@ -1,5 +1,5 @@
 use Rattle.std.proofs.Common.{◌≡◌, ◌++◌, length, take, drop}
-use Rattle.mold_packet.proofs.Growing.{blocks_to}
+use Rattle.mold_packet.specs.laws.Growing.{blocks_to}
 use Rattle.mold_packet.proofs.writing.write_blocks.Given as goal
 
 abbrev pub invariant-loop-message : goal.invariant-loop-message

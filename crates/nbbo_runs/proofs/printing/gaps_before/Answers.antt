@@ -6,4 +6,5 @@ returns-in-Ok-page_before-clause-rows g c =
     record {
       is = search rules;
       format_is = search rules;
+      are_new = search rules;
     }

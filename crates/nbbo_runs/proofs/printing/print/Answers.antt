@@ -1,6 +1,7 @@
-use Rattle.std.proofs.Common.{refl}
+use Rattle.std.proofs.Common.{ap, refl, ◌∙◌}
 use Rattle.text_out.specs.Devices.{Writing}
 use Rattle.text_out.specs.Members.{writing_of}
+use Rattle.event_sinks.specs.declared.text_page.TextPage.{TextPage}
 use Rattle.feed_text.specs.EventReplays.{venues_in}
 use Rattle.best_rows.specs.declared.style.RowStyle.{RowStyle}
 use Rattle.replay_reports.specs.BestRowMakers.{text_of_rows}
@@ -9,17 +10,35 @@ use Rattle.period_rows.specs.BestMakers.{AreBests}
 use Rattle.period_rows.specs.BestRows.{BestSetting, best_names, best_rows_with, text_of_bests}
 use Rattle.nbbo_runs.specs.Printing.{rows_of_gaps, rows_of_text}
 use Rattle.nbbo_runs.proofs.GapPrints.{gaps_write}
-use Rattle.nbbo_runs.proofs.SinkPrints.{bests_write, history_writes, made_writes}
+use Rattle.nbbo_runs.proofs.SinkPrints.{bests_write, history_writes, lines_print, made_writes}
 use Rattle.nbbo_runs.proofs.printing.print.Goals as goal
 
-pub returns-in-Lines : goal.returns-in-Lines
-returns-in-Lines g c = rw c.without_periods.ensures (record {
+pub returns-in-Ok : goal.returns-in-Ok
+returns-in-Ok g c =
+    let config = c.config_of-config.result.replay in
+    let sink = c.new-sink in
+    let replayed = c.replay_watched-replayed in
+    rw c.into_writer.ensures (record {
+      config = config;
+      is = c.config_of-config.ensures.replay;
+      prints = rw c.in-Lines.is (lines_print (writing_of g.W.TextOut) _ _ config _ _ _ _
+          replayed.result.outcome (λ s. s.page) c.args.output sink.result replayed.result.sink
+          (ap (λ (p : TextPage g.row.W.Denot). p.writer) sink.ensures ∙ c.in-Ok.ensures.writer)
+          (ap (λ (p : TextPage g.row.W.Denot). p.text.items) sink.ensures ∙ c.in-Ok.ensures.empty)
+          replayed.ensures.headline);
+      gaps = replayed.ensures.gaps;
+      absent_are = rw (← c.config_of-config.ensures.replay.symbols) replayed.ensures.absent;
+      late_is = rw c.in-Lines.is refl;
+    })
+
+pub returns-in-Err : goal.returns-in-Err
+returns-in-Err g c = rw (c.without_periods.ensures, c.without_memory.ensures.outcome) (record {
   config = c.config_of-config.result.replay;
   is = c.config_of-config.ensures.replay;
-  prints = rw (← c.config_of-config.ensures.span, c.in-Lines.is) c.print_lines.ensures.prints;
-  gaps = c.print_lines.ensures.missing.gaps;
-  absent_are = rw (← c.config_of-config.ensures.replay.symbols)
-      c.print_lines.ensures.missing.absent;
+  prints = rw c.in-Lines.is
+      (refl, refl, c.without_memory.ensures.output ∙ c.in-Err.ensures.refused);
+  gaps = tt;
+  absent_are = tt;
   late_is = rw c.in-Lines.is refl;
 })
 
@@ -53,8 +72,9 @@ returns-in-Gaps g c =
     let format = c.in-Gaps.rows in
     let output = c.args.output in
     let made = c.gaps_before-made.result in
-    let printed = c.print_rows-in-Gaps.ensures (rows_of_gaps format) output
-    (made_writes made (gaps_write writing format output) c.gaps_before-made.ensures.rows)
+    let venues = venues_in c.config_of-config.result.replay in
+    let printed = c.print_rows-in-Gaps.ensures (rows_of_gaps format venues) output
+    (made_writes made (gaps_write writing format venues output) c.gaps_before-made.ensures.rows)
     c.gaps_before-made.ensures.refused in
     rw c.without_periods-in-Gaps.ensures (record {
       config = c.config_of-config.result.replay;

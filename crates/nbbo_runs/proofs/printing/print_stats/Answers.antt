@@ -46,7 +46,7 @@ returns g c =
     } in
     let config = c.args.config.now in
     let span = config.span in
-    let timed = c.args.form.has_times in
+    let timed = c.args.form.timed in
     let replayed = c.replay_in_span-replayed in
     let start = c.in-Ok.stats in
     let stats = replayed.result.sink.sink in
