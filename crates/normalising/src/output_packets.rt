@@ -56,7 +56,12 @@ fn put_messages<W: TextOut>(
 {
     let mut from = 0;
     'packets: while from < items.len() {
-        let written = write_items(&origin.session, number + from as u64, &items[from..], packet);
+        let written = write_items(
+            &origin.session,
+            number + from as u64,
+            &items[from..],
+            packet,
+        );
         page.put_datagram(origin, &packet[..written.len], writer)?;
         from += written.count;
     }

@@ -1,5 +1,5 @@
 use Rattle.text_out.specs.Members.{writing_of}
-use Rattle.std.proofs.Common.{◌-◌, ◌∙◌, length, take, drop, subst, arith, length-drop, length-take}
+use Rattle.std.proofs.Common.{◌-◌, ◌∙◌, length, drop, subst, arith, length-drop, length-take}
 use Rattle.std.proofs.lemmas.List.{take-append-drop, take_all}
 use Rattle.normalising.specs.Writes.{PutsFront, PutsPackets}
 use Rattle.item_packets.specs.laws.Parts.{taken_rest}
