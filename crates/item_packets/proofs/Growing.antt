@@ -9,7 +9,7 @@ use Rattle.mold_packet.specs.Block.{IsMessage}
 use Rattle.mold_packet.specs.laws.Growing.{length-blocks_more}
 use Rattle.quote_payload.specs.Payload.{item_of}
 use Rattle.item_packets.specs.Carried.{IsMessageItem, numbered_item}
-use Rattle.item_packets.specs.Filled.{AreBlocks, message_of}
+use Rattle.item_packets.specs.Filled.{AreItemBlocks, message_of}
 use Rattle.item_packets.specs.laws.Parts.{all_append}
 
 -- the bytes are a message of this project's own, which reads as the item
@@ -30,13 +30,13 @@ map_more f ns i d lt =
     ap (map f) (take_more ns i d lt) ∙ map-append f (take i ns) (get_or ns i d ∷ [])
 
 -- no block more
-pub no_blocks : (ns : List Numbered) → AreBlocks ns 0 0
+pub no_blocks : (ns : List Numbered) → AreItemBlocks ns 0 0
 no_blocks ns = record { there = omega arith; sized = omega arith; each = tt; reads = λ each. cc }
 
 -- one block more, of this message
 pub one_more : (ns : List Numbered) (i len : ℕ) (x : Numbered) (message : List ℕ) → i < length ns
-    → x ≡ get_or ns i x → message ≡ message_of x → IsMade message x.item → AreBlocks ns i len
-    → AreBlocks ns (i + 1) (len + (2 + length message))
+    → x ≡ get_or ns i x → message ≡ message_of x → IsMade message x.item → AreItemBlocks ns i len
+    → AreItemBlocks ns (i + 1) (len + (2 + length message))
 one_more ns i len x message lt is bytes made before = record {
   there = omega (arith, lt);
   sized = let more = length-blocks_more message_of ns i x lt in

@@ -9,7 +9,7 @@ use Rattle.mold_packet.specs.Header.{header}
 use Rattle.mold_packet.specs.Writing.{WritesFirst}
 use Rattle.mold_packet.specs.laws.HeaderFields.{length-header}
 use Rattle.mold_packet.specs.laws.Overwriting.{tail_written, take_front, writes_first}
-use Rattle.item_packets.specs.Filled.{AreBlocks, blocks_of, message_of, packet_of}
+use Rattle.item_packets.specs.Filled.{AreItemBlocks, blocks_of, message_of, packet_of_items}
 use Rattle.item_packets.specs.laws.Parts.{length-map-of}
 use borrow.Rule.Slice.PartMut.{put_mid}
 
@@ -28,7 +28,7 @@ count_of n ns there = length-map-of message_of (take n ns)
     ∙ (let l = length-take n ns in omega (arith, l, there))
 
 len_of : (session : List ℕ) (number n len : ℕ) (ns : List Numbered) → length session ≡ 10
-    → AreBlocks ns n len → length (header session number n ++ blocks_of n ns) ≡ 20 + len
+    → AreItemBlocks ns n len → length (header session number n ++ blocks_of n ns) ≡ 20 + len
 len_of session number n len ns ten are =
     let h = length-header session number n ten in
     let parts = length-append (header session number n) (blocks_of n ns) in
@@ -37,7 +37,7 @@ len_of session number n len ns ten are =
 
 -- what a header before these blocks makes of the buffer
 whole_is : (session : List ℕ) (number n len : ℕ) (ns : List Numbered) (old after new : List ℕ)
-    → length session ≡ 10 → 20 ≤ length old → AreBlocks ns n len
+    → length session ≡ 10 → 20 ≤ length old → AreItemBlocks ns n len
     → after ≡ blocks_of n ns ++ drop len (take (length old - 20) (drop 20 old))
     → new ≡ header session number n ++ drop 20 (put_mid 20 (length old - 20) old after)
     → new ≡ (header session number n ++ blocks_of n ns) ++ drop (20 + len) old
@@ -58,7 +58,7 @@ whole_is session number n len ns old after new ten room are written headed =
 
 -- the other bytes are as before
 pub others_there : (session : List ℕ) (number n len : ℕ) (ns : List Numbered)
-    (old after new : List ℕ) → length session ≡ 10 → 20 + len ≤ length old → AreBlocks ns n len
+    (old after new : List ℕ) → length session ≡ 10 → 20 + len ≤ length old → AreItemBlocks ns n len
     → after ≡ blocks_of n ns ++ drop len (take (length old - 20) (drop 20 old))
     → new ≡ header session number n ++ drop 20 (put_mid 20 (length old - 20) old after)
     → WritesFirst (20 + len) old new
@@ -70,10 +70,10 @@ others_there session number n len ns old after new ten room are written headed =
 -- the bytes at the front spell the packet
 pub spelled_there : (session : List ℕ) (number n len : ℕ) (ns : List Numbered)
     (old after new : List ℕ) → length session ≡ 10 → 20 ≤ length old → 1 ≤ number → 1 ≤ n
-    → n ≤ 65534 → number + length ns ≤ 2 ^ 64 → AreBlocks ns n len
+    → n ≤ 65534 → number + length ns ≤ 2 ^ 64 → AreItemBlocks ns n len
     → after ≡ blocks_of n ns ++ drop len (take (length old - 20) (drop 20 old))
     → new ≡ header session number n ++ drop 20 (put_mid 20 (length old - 20) old after)
-    → Spells (take (20 + len) new) (packet_of session number n ns) []
+    → Spells (take (20 + len) new) (packet_of_items session number n ns) []
 spelled_there session number n len ns old after new ten room one some few in_range are written
     headed = record {
       content = record {
@@ -89,7 +89,7 @@ spelled_there session number n len ns old after new ten room one some few in_ran
           (len_of session number n len ns ten are)
           (whole_is session number n len ns old after new ten room are written headed)
           ∙ ap (λ (k : ℕ). header session number k ++ blocks_of n ns) (sym count)
-          ∙ sym (append-nil (spelling (packet_of session number n ns)));
+          ∙ sym (append-nil (spelling (packet_of_items session number n ns)));
     }
   where
     count : length (map message_of (take n ns)) ≡ n

@@ -24,7 +24,7 @@ pub record IsMost (room : ℕ) (items : List Numbered) (n : ℕ) : Type 0 where
   pub most : n < length items → room < length (blocks_of (n + 1) items)
 
 -- the blocks of the first n items have this length, and their messages read as these items
-pub record AreBlocks (items : List Numbered) (n len : ℕ) : Type 0 where
+pub record AreItemBlocks (items : List Numbered) (n len : ℕ) : Type 0 where
   pub there : n ≤ length items
   pub sized : len ≡ length (blocks_of n items)
   pub each : AllByRecursion IsMessage (map message_of (take n items))
@@ -32,8 +32,8 @@ pub record AreBlocks (items : List Numbered) (n len : ℕ) : Type 0 where
       → map item_of (map message_of (take n items)) ≡ map numbered_item (take n items)
 
 -- the packet of the first n items, of which the first has this number
-abbrev pub packet_of : List ℕ → ℕ → ℕ → List Numbered → Content
-packet_of session number n items = record {
+abbrev pub packet_of_items : List ℕ → ℕ → ℕ → List Numbered → Content
+packet_of_items session number n items = record {
   session = session;
   number = number;
   kind = kinds.Messages;

@@ -6,7 +6,7 @@ ghost use Rattle.feed_types.specs.Sessions.{numbered_from};
 ghost use Rattle.mold_packet.specs.Content.{Spells};
 ghost use Rattle.mold_packet.specs.Writing.{WritesFirst};
 ghost use Rattle.item_packets.specs.Carried.{IsMessageItem, items_carried};
-ghost use Rattle.item_packets.specs.Filled.{AreBlocks, IsMost, blocks_of, packet_of};
+ghost use Rattle.item_packets.specs.Filled.{AreItemBlocks, IsMost, blocks_of, packet_of_items};
 
 use feed_types::{Numbered, SessionName};
 use mold_packet::{HEADER_LEN, write_block, write_header};
@@ -23,7 +23,7 @@ pub struct WrittenItems {
 
 /// Writes the blocks of the first items, as many as fit, to the front of `out`.
 fn write_blocks(items: &[Numbered], out: &mut [u8]) -> WrittenItems
-    ensures blocks { AreBlocks items.now result.count result.len }
+    ensures blocks { AreItemBlocks items.now result.count result.len }
     ensures most { IsMost (length out.old) items.now result.count }
     ensures some { 36 ≤ length out.old → 1 ≤ length items.now → 1 ≤ result.count }
     ensures written { out.new
@@ -62,10 +62,10 @@ pub fn write_items(
     ensures some { 1 ≤ result.count }
     ensures most { IsMost 65487 items.now result.count }
     ensures spelled { Spells (take result.len out.new)
-        (packet_of session.now number result.count items.now) [] }
+        (packet_of_items session.now number result.count items.now) [] }
     ensures carried { (its : List Item)
         → items.now ≡ numbered_from number its → AllByRecursion IsMessageItem its
-        → items_carried (packet_of session.now number result.count items.now)
+        → items_carried (packet_of_items session.now number result.count items.now)
         ≡ take result.count items.now }
     ensures first { WritesFirst result.len out.old out.new }
     ensures room { length out.new ≡ 65507 }

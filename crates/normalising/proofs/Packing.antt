@@ -15,7 +15,7 @@ use Rattle.quote_payload.specs.Payload.{item_of}
 use Rattle.normalising.specs.Carried.{AreWritten, BeatsAt, IsMessageItem, RunsFrom, end_of_kind, items_carried}
 use Rattle.item_packets.specs.laws.Parts.{all_append, row_back, row_front}
 use Rattle.item_packets.specs.laws.Adding.{carried_next}
-use Rattle.item_packets.specs.Filled.{packet_of as row_packet}
+use Rattle.item_packets.specs.Filled.{packet_of_items}
 use Rattle.normalising.specs.Texts.{datagram_text}
 use Rattle.normalising.specs.Writes.{PutsFront, PutsPackets, PutsText, text_of}
 use Rattle.normalising.specs.declared.output_form.OutputForm.{OutputForm}
@@ -105,10 +105,10 @@ pub packet_more : {W : Type 0} (writing : Writing W)
     (p1 p2 p3 : List ℕ) → now ≡ form
     → items ≡ numbered_from number its → AllByRecursion IsMessageItem its → rest ≡ drop from items
     → PutsPackets writing form origin last (take from items) w1 w2 p1 p2
-    → Spells bytes (row_packet origin.session (number + from) n rest) []
+    → Spells bytes (packet_of_items origin.session (number + from) n rest) []
     → ((more : List Item) → rest ≡ numbered_from (number + from) more
     → AllByRecursion IsMessageItem more
-    → items_carried (row_packet origin.session (number + from) n rest) ≡ take n rest)
+    → items_carried (packet_of_items origin.session (number + from) n rest) ≡ take n rest)
     → PutsText writing w2 w3 p2 (datagram_text now origin.venue origin.time bytes) p3
     → PutsPackets writing form origin last (take (from + n) items) w1 w3 p1 p3
 packet_more writing adds_more form now origin last number from n items rest its bytes w1 w2 w3 p1 p2

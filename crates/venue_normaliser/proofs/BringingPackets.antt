@@ -17,7 +17,7 @@ use Rattle.line_arbiter.specs.laws.Bringing.{carried-push}
 use Rattle.line_arbiter.specs.laws.Fronts.{front_greatest, front_is}
 use Rattle.line_arbiter.specs.laws.Lengths.{end_most}
 use Rattle.venue_normaliser.specs.declared.message_slot.MessageSlot.{MessageSlot}
-use Rattle.venue_normaliser.specs.Brought.{message_at, message_brought}
+use Rattle.venue_normaliser.specs.Brought.{taken_bytes, message_brought}
 use Rattle.venue_normaliser.specs.Slots.{KeepsTaken}
 use Rattle.venue_normaliser.specs.Outputs.{Opening}
 use Rattle.venue_normaliser.specs.States.{FitsOpened, NormaliserState}
@@ -75,11 +75,11 @@ went_past session window sent packets a taken all one next =
             | inr ge ↦ there m ge (omega arith)
           ]);
       messages =
-          ap (λ (n : ℕ). map (message_at after) (range_with_len n (last_number p - f)))
+          ap (λ (n : ℕ). map (taken_bytes after) (range_with_len n (last_number p - f)))
           (let n : f + 1 ≡ p.number = omega arith in n)
-          ∙ ap (λ (n : ℕ). map (message_at after) (range_with_len p.number n))
+          ∙ ap (λ (n : ℕ). map (taken_bytes after) (range_with_len p.number n))
           (let n : last_number p - f ≡ length p.messages = omega arith in n)
-          ∙ map_list (message_at after) [] p.number p.messages (λ k lt.
+          ∙ map_list (taken_bytes after) [] p.number p.messages (λ k lt.
           ap (λ (o : Option (List ℕ)). unwrap_or o [])
           (taken-push packets (Arrived a) (p.number + k)
           ∙ ap (λ (o : Option (List ℕ)). option_or o
@@ -114,7 +114,7 @@ sent_is s opening packets fits = all_sent_is packets s.lines.sent fits.all_sent
 
 between_none : (packets : List Input) (f n : ℕ) → n ≤ f → messages_between packets f n ≡ []
 between_none packets f n le =
-    ap (λ (k : ℕ). map (message_at packets) (range_with_len (f + 1) k))
+    ap (λ (k : ℕ). map (taken_bytes packets) (range_with_len (f + 1) k))
     (let k : n - f ≡ 0 = omega arith in k)
 
 pub brings_next : (session : List ℕ) (window : ℕ) (opening : Opening) (packets : List Input) (a :

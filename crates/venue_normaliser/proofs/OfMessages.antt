@@ -14,7 +14,7 @@ use Rattle.line_arbiter.specs.Outcomes.{IsOutcome}
 use Rattle.line_arbiter.specs.OfSession.{IsInputOfMessages, IsOfMessages}
 use Rattle.line_arbiter.specs.laws.Bringing.{number_in}
 use Rattle.line_arbiter.specs.laws.Fronts.{front_is}
-use Rattle.venue_normaliser.specs.Brought.{before_skip_past, message_at, message_brought, taken_message}
+use Rattle.venue_normaliser.specs.Brought.{before_skip_past, taken_bytes, message_brought, taken_message}
 use Rattle.venue_normaliser.specs.Outputs.{AreMadeAfter, GivesItemsFrom, IsPutOutFrom, Opening}
 use Rattle.venue_normaliser.proofs.Taken.{some_taken}
 
@@ -161,13 +161,13 @@ session_at : (from : ℕ) (name : List ℕ) (messages : List (List ℕ)) (window
     → AllByRecursion (IsInputOfMessages name messages) packets
     → (k : ℕ) → k < front_of (before_skip_past from packets) + 1 - from
     → slice_get (drop (from - 1) messages) k
-    ≡ Some (message_at (before_skip_past from packets) (from + k))
+    ≡ Some (taken_bytes (before_skip_past from packets) (from + k))
 session_at from name messages window packets one all of k lt =
     get_past (from - 1) k messages
     ∙ ap (slice_get messages) (let n : (from - 1) + k ≡ (from + k) - 1 = omega arith in n)
     ∙ of_taken from name messages packets
     (all_taken from name messages window [] packets all of) (from + k)
-    (message_at (before_skip_past from packets) (from + k)) (omega arith)
+    (taken_bytes (before_skip_past from packets) (from + k)) (omega arith)
     (some_of (taken_message (before_skip_past from packets) (from + k)) []
     (some_taken (before_skip_past from packets) (from + k)
     ((front_is (before_skip_past from packets)).all (from + k) (omega arith) (omega arith))))
@@ -191,7 +191,7 @@ gives_items keys opening name messages window packets output all of out =
             ((front_is (before_skip_past from packets)).all front (omega arith) (omega arith)))
       ];
       made = subst (λ (ms : List (List ℕ)). AreMadeAfter keys opening.messages ms out.items)
-          (take_by (message_at (before_skip_past from packets)) from (front + 1 - from)
+          (take_by (taken_bytes (before_skip_past from packets)) from (front + 1 - from)
           (drop (from - 1) messages) at) out.made;
       is = out.is;
     }

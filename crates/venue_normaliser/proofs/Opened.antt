@@ -18,7 +18,7 @@ use Rattle.line_arbiter.specs.declared.faults.SkipFault.TheVariants.{ItemsReady,
 use Rattle.line_arbiter.specs.States.{State}
 use Rattle.line_arbiter.specs.laws.Fronts.{front_unique, front_is}
 use Rattle.venue_normaliser.specs.declared.message_slot.MessageSlot.{MessageSlot}
-use Rattle.venue_normaliser.specs.Brought.{before_skip_past, has_skip_past, kept_bytes, message_at, message_brought, messages_brought, taken_message}
+use Rattle.venue_normaliser.specs.Brought.{before_skip_past, has_skip_past, kept_bytes, taken_bytes, message_brought, messages_brought, taken_message}
 use Rattle.venue_normaliser.specs.Outputs.{AreMadeAfter, AreShown, IsPutOutFrom, Opening, events_of, from_start, opened_at, put_first}
 use Rattle.venue_normaliser.specs.Slots.{stored_at}
 use Rattle.venue_normaliser.specs.Snapshots.{SnapshotContent}
@@ -104,7 +104,7 @@ opened_before n = elim (cases_lt 1 n) [
 opened_messages : (n : ℕ) → 1 ≤ n → messages_brought n (opened_at n) ≡ []
 opened_messages n one =
     let front = opened_front n one in
-    ap (λ (k : ℕ). map (message_at (opened_at n)) (range_with_len n k))
+    ap (λ (k : ℕ). map (taken_bytes (opened_at n)) (range_with_len n k))
     (let k : front_of (opened_at n) + 1 - n ≡ 0 = omega arith in k)
 
 -- a session of which nothing came begins at any number

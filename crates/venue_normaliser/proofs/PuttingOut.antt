@@ -14,7 +14,7 @@ use Rattle.line_arbiter.specs.Outcomes.{IsOutcome}
 use Rattle.line_arbiter.specs.Skips.{MaySkip}
 use Rattle.line_arbiter.specs.States.{State}
 use Rattle.venue_normaliser.specs.declared.message_slot.MessageSlot.{MessageSlot}
-use Rattle.venue_normaliser.specs.Brought.{before_skip_past, has_skip_past, message_at, messages_brought}
+use Rattle.venue_normaliser.specs.Brought.{before_skip_past, has_skip_past, taken_bytes, messages_brought}
 use Rattle.venue_normaliser.specs.Outputs.{AreMadeAfter, Opening, end_put_out_from, events_of, put_first}
 use Rattle.venue_normaliser.specs.States.{PutsOutFrom}
 use Rattle.venue_normaliser.specs.Inside.{PutsMany, PutsReady, messages_between}
@@ -135,17 +135,17 @@ joined packets f sent g book0 book1 book2 out0 out1 mid from grows first second 
           let first' : PutsMany (f + 1) (messages_between packets f sent) book0 book1 out0 out1 =
           subst (λ (n : ℕ). PutsMany (f + 1) (messages_between packets f n) book0 book1 out0 out1)
           least first in
-          let len = length-map-range_with_len (message_at packets) (f + 1) (sent - f) in
+          let len = length-map-range_with_len (taken_bytes packets) (f + 1) (sent - f) in
           let number : sent + 1 ≡ (f + 1) + length (messages_between packets f sent) =
           omega arith in
           let sum : (sent - f) + (g - sent) ≡ g - f = omega arith in
           let whole : messages_between packets f sent ++ messages_between packets sent g
           ≡ messages_between packets f g =
           ap (λ (k : ℕ). messages_between packets f sent
-          ++ map (message_at packets) (range_with_len k (g - sent)))
+          ++ map (taken_bytes packets) (range_with_len k (g - sent)))
           (let k : sent + 1 ≡ (f + 1) + (sent - f) = omega arith in k)
-          ∙ sym (range_join (message_at packets) (f + 1) (sent - f) (g - sent))
-          ∙ ap (λ (k : ℕ). map (message_at packets) (range_with_len (f + 1) k)) sum in
+          ∙ sym (range_join (taken_bytes packets) (f + 1) (sent - f) (g - sent))
+          ∙ ap (λ (k : ℕ). map (taken_bytes packets) (range_with_len (f + 1) k)) sum in
           subst (λ (ms : List (List ℕ)). PutsMany (f + 1) ms book0 book2 out0 mid) whole
           (many_join (f + 1) (messages_between packets f sent) (messages_between packets sent g)
           book0 book1 book2 out0 out1 mid first'
@@ -159,7 +159,7 @@ joined packets f sent g book0 book1 book2 out0 out1 mid from grows first second 
           let none : g - sent ≡ 0 = omega arith in
           let empty : PutsMany (sent + 1) [] book1 book2 out1 mid =
           subst (λ (k : ℕ). PutsMany (sent + 1)
-          (map (message_at packets) (range_with_len (sent + 1) k)) book1 book2 out1 mid)
+          (map (taken_bytes packets) (range_with_len (sent + 1) k)) book1 book2 out1 mid)
           none second in
           subst (λ (ms : List (List ℕ)). PutsMany (f + 1) ms book0 book2 out0 mid)
           (append-nil (messages_between packets f g))
@@ -247,7 +247,7 @@ finishes opening session window given packets a slots lines1 lines2 book0 book1 
           ∙ ap (λ (o : Option ℕ). end_at o (f + 1)) stays.1 in
           let at = ended (omega arith) in
           let size = stays.0 in
-          let len = length-map-range_with_len (message_at after) (f + 1) (g - f) in
+          let len = length-map-range_with_len (taken_bytes after) (f + 1) (g - f) in
           let count = all.count in
           let none_put : all.items ≡ [] = nil_of all.items (omega arith) in
           let nothing : numbered_from (f + 1) all.items ≡ [] =
@@ -277,7 +277,7 @@ finishes opening session window given packets a slots lines1 lines2 book0 book1 
           items = is.items ++ all.items;
           made = made is.items is.made;
           is =
-              let len = length-map-range_with_len (message_at packets) number
+              let len = length-map-range_with_len (taken_bytes packets) number
               (front_of packets + 1 - number) in
               let count : length is.items ≡ f + 1 - number = is.made.count
               ∙ ap (λ (xs : List Input). length (messages_brought number xs))

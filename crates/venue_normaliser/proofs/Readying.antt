@@ -26,7 +26,7 @@ use Rattle.line_arbiter.specs.laws.Fronts.{front_greatest, front_is, not_none, o
 use Rattle.line_arbiter.specs.laws.Genuine.{carried_never_end}
 use Rattle.line_arbiter.specs.laws.Lengths.{end_most, end_one, length-stream}
 use Rattle.venue_normaliser.specs.declared.message_slot.MessageSlot.{MessageSlot}
-use Rattle.venue_normaliser.specs.Brought.{kept_bytes, message_at, taken_message}
+use Rattle.venue_normaliser.specs.Brought.{kept_bytes, taken_bytes, taken_message}
 use Rattle.venue_normaliser.specs.Slots.{KeepsTaken, stored_at}
 use Rattle.venue_normaliser.specs.Inside.{PutsMany, PutsOneItem, PutsReady, messages_between}
 use Rattle.venue_normaliser.proofs.Making.{many_none, many_more}
@@ -232,18 +232,18 @@ up_to_none packets s book out fits = record {
   from = omega arith;
   within = inr refl;
   puts = subst (λ (n : ℕ). PutsMany (s.sent + 1)
-      (map (message_at packets) (range_with_len (s.sent + 1) n)) book book out out)
+      (map (taken_bytes packets) (range_with_len (s.sent + 1) n)) book book out out)
       (let none : 0 ≡ s.sent - s.sent = omega arith in none)
       (many_none (s.sent + 1) book out);
 }
 
 between_more : (packets : List Input) (a b : ℕ) → a ≤ b
     → messages_between packets a (b + 1)
-    ≡ messages_between packets a b ++ message_at packets (b + 1) ∷ []
+    ≡ messages_between packets a b ++ taken_bytes packets (b + 1) ∷ []
 between_more packets a b le =
     let more : (b + 1) - a ≡ (b - a) + 1 = omega arith in
-    ap (λ (n : ℕ). map (message_at packets) (range_with_len (a + 1) n)) more
-    ∙ map-range_with_len_more (message_at packets) (a + 1) (b - a) (b + 1) (omega arith)
+    ap (λ (n : ℕ). map (taken_bytes packets) (range_with_len (a + 1) n)) more
+    ∙ map-range_with_len_more (taken_bytes packets) (a + 1) (b - a) (b + 1) (omega arith)
 
 pub up_to_more : (packets : List Input) (stored : List MessageSlot) (old mid new : State)
     (old_book mid_book new_book : OrderBookState) (before between after : List Numbered)
@@ -264,7 +264,7 @@ up_to_more packets stored old mid new old_book mid_book new_book before between 
     subst (λ (o : Option Item). IsSome o) (held_is mid packets so.lines)
     (next_message (mid.sent + 1) (held_at (held_of mid) (mid.sent + 1)) mid.end ready is not) in
     let least = front_least packets mid.sent within some in
-    let bytes : order_event_of message ≡ order_event_of (message_at packets (mid.sent + 1)) =
+    let bytes : order_event_of message ≡ order_event_of (taken_bytes packets (mid.sent + 1)) =
     ap order_event_of (read
     ∙ ap (λ (k : ℕ). unwrap_or (stored_at stored k) []) number
     ∙ ap (λ (o : Option (List ℕ)). unwrap_or o []) (keeps.each (mid.sent + 1) (omega arith)))
@@ -279,9 +279,9 @@ up_to_more packets stored old mid new old_book mid_book new_book before between 
           (subst (λ (ms : List (List ℕ)). PutsMany (old.sent + 1) ms
           old_book new_book before after) (sym (between_more packets old.sent mid.sent from))
           (many_more (old.sent + 1) ready.number (messages_between packets old.sent mid.sent)
-          (message_at packets (mid.sent + 1)) old_book mid_book new_book before between after
+          (taken_bytes packets (mid.sent + 1)) old_book mid_book new_book before between after
           so.puts
-          (let len = length-map-range_with_len (message_at packets) (old.sent + 1)
+          (let len = length-map-range_with_len (taken_bytes packets) (old.sent + 1)
           (mid.sent - old.sent) in omega arith)
           (subst (λ (e : OrderEvent). PutsOneItem ready.number e mid_book new_book between after)
           bytes one)));
@@ -351,7 +351,7 @@ ready_none packets stored old new old_book new_book before after keeps kept so i
             kept = kept;
             slots = later stored packets old.sent new.sent from keeps;
             puts = subst (λ (n : ℕ). PutsMany (old.sent + 1)
-                (map (message_at packets) (range_with_len (old.sent + 1) n))
+                (map (taken_bytes packets) (range_with_len (old.sent + 1) n))
                 old_book new_book before after) empty so.puts;
             end = sym (ap (λ (b : Bool). after ++ (if b then end_here packets else []))
                 (test_not old.sent (front_of packets) (omega arith))

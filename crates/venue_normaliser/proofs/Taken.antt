@@ -12,7 +12,7 @@ use Rattle.line_arbiter.specs.Streams.{front_of}
 use Rattle.line_arbiter.specs.laws.Options.{IsSome-or, map_or, picked}
 use Rattle.line_arbiter.specs.laws.Bringing.{carried-push}
 use Rattle.line_arbiter.specs.laws.Fronts.{front_greatest, front_is}
-use Rattle.venue_normaliser.specs.Brought.{has_skip_past, before_skip_past, message_at, message_brought, messages_brought, messages_to, taken_message}
+use Rattle.venue_normaliser.specs.Brought.{has_skip_past, before_skip_past, taken_bytes, message_brought, messages_brought, messages_to, taken_message}
 use Rattle.venue_normaliser.specs.Inside.{messages_between}
 
 pub taken-push : (packets : List Input) (x : Input) (m : ℕ)
@@ -53,7 +53,7 @@ or_some (Some x) e d h = refl
 
 -- what was taken stays
 pub message_stays : (packets : List Input) (x : Input) (m : ℕ) → IsSome (carried packets m)
-    → message_at (packets ++ x ∷ []) m ≡ message_at packets m
+    → taken_bytes (packets ++ x ∷ []) m ≡ taken_bytes packets m
 message_stays packets x m h =
     ap (λ (o : Option (List ℕ)). unwrap_or o []) (taken-push packets x m)
     ∙ or_some (taken_message packets m) (if brings m x then Some (message_brought x m) else None) []
@@ -93,7 +93,7 @@ front_grows packets x =
 pub messages_stay : (from : ℕ) (packets : List Input) (x : Input) → 1 ≤ from
     → messages_to from (packets ++ x ∷ []) (front_of packets) ≡ messages_brought from packets
 messages_stay from packets x one =
-    map_same (message_at (packets ++ x ∷ [])) (message_at packets) from
+    map_same (taken_bytes (packets ++ x ∷ [])) (taken_bytes packets) from
     (front_of packets + 1 - from)
     (λ m low most. message_stays packets x m
     ((front_is packets).all m (omega arith) (omega arith)))
@@ -102,10 +102,10 @@ pub messages_split : (from : ℕ) (packets : List Input) (a b : ℕ) → from �
     → messages_to from packets b ≡ messages_to from packets a ++ messages_between packets a b
 messages_split from packets a b low le =
     let sum : b + 1 - from ≡ (a + 1 - from) + (b - a) = omega arith in
-    ap (λ (n : ℕ). map (message_at packets) (range_with_len from n)) sum
-    ∙ range_join (message_at packets) from (a + 1 - from) (b - a)
+    ap (λ (n : ℕ). map (taken_bytes packets) (range_with_len from n)) sum
+    ∙ range_join (taken_bytes packets) from (a + 1 - from) (b - a)
     ∙ ap (λ (k : ℕ). messages_to from packets a
-    ++ map (message_at packets) (range_with_len k (b - a)))
+    ++ map (taken_bytes packets) (range_with_len k (b - a)))
     (omega arith)
 
 -- ---- gaps that were given up

@@ -16,12 +16,12 @@ message_brought (Skip n) m = []
 abbrev pub taken_message : List Input → ℕ → Option (List ℕ)
 taken_message packets m = option_map (λ x. message_brought x m) (bringer packets m)
 
-abbrev pub message_at : List Input → ℕ → List ℕ
-message_at packets m = unwrap_or (taken_message packets m) []
+abbrev pub taken_bytes : List Input → ℕ → List ℕ
+taken_bytes packets m = unwrap_or (taken_message packets m) []
 
 -- the messages of the numbers `from` to n
 abbrev pub messages_to : ℕ → List Input → ℕ → List (List ℕ)
-messages_to from packets n = map (message_at packets) (range_with_len from (n + 1 - from))
+messages_to from packets n = map (taken_bytes packets) (range_with_len from (n + 1 - from))
 
 -- the messages from this number up to the first gap
 abbrev pub messages_brought : ℕ → List Input → List (List ℕ)

@@ -19,7 +19,7 @@ use Rattle.line_arbiter.specs.States.{State, KeepsAllButSent}
 use Rattle.line_arbiter.specs.Fits.{Fits}
 use Rattle.line_arbiter.specs.Skips.{AllSent}
 use Rattle.venue_normaliser.specs.declared.message_slot.MessageSlot.{MessageSlot}
-use Rattle.venue_normaliser.specs.Brought.{message_at}
+use Rattle.venue_normaliser.specs.Brought.{taken_bytes}
 use Rattle.venue_normaliser.specs.Outputs.{AreMadeAfter, MakesItem, events_of}
 use Rattle.venue_normaliser.specs.Slots.{KeepsTaken}
 use Rattle.venue_normaliser.specs.Snapshots.{is_of_snapshot}
@@ -52,7 +52,7 @@ pub record PutsMany (number : ℕ) (messages : List (List ℕ)) (old new : Order
 -- the messages after one number up to another
 abbrev pub messages_between : List Input → ℕ → ℕ → List (List ℕ)
 messages_between packets from to =
-    map (message_at packets) (range_with_len (from + 1) (to - from))
+    map (taken_bytes packets) (range_with_len (from + 1) (to - from))
 
 -- All that is ready was put out: the messages past the last one sent, up to the first gap, and the
 -- end, where it follows and wasn't sent.

@@ -11,7 +11,7 @@ use Rattle.mold_packet.specs.declared.packet.Kind.TheVariants as kinds
 use Rattle.mold_packet.specs.Content.{Content, IsContent, Spells, spelling}
 use Rattle.item_packets.specs.Carried.{IsMessageItem, RunsFrom, items_carried}
 use Rattle.item_packets.specs.Packed.{AddsPacked, ArePacked, IsNoHeartbeat, bytes_of_each}
-use Rattle.item_packets.specs.Filled.{packet_of}
+use Rattle.item_packets.specs.Filled.{packet_of_items}
 use Rattle.item_packets.specs.laws.Parts.{all_append, all_dropped, rest_of_row, row_back, row_front}
 
 pub none_packed : (name : List ℕ) → ArePacked name [] []
@@ -82,8 +82,8 @@ pub carried_next : (name : List ℕ) (number from n : ℕ) (items rest : List Nu
     → rest ≡ drop from items
     → ((more : List Item) → rest ≡ numbered_from (number + from) more
     → AllByRecursion IsMessageItem more
-    → items_carried (packet_of name (number + from) n rest) ≡ take n rest)
-    → take from items ++ items_carried (packet_of name (number + from) n rest)
+    → items_carried (packet_of_items name (number + from) n rest) ≡ take n rest)
+    → take from items ++ items_carried (packet_of_items name (number + from) n rest)
     ≡ take (from + n) items
 carried_next name number from n items rest its is each after carried =
     ap (λ (z : List Numbered). take from items ++ z)
@@ -97,10 +97,10 @@ pub packet_more : {A : Type 0} (name : List ℕ) (number from n : ℕ) (items re
     (its : List Item) (bytes : List ℕ) (p1 p2 p3 : List (Vec ℕ A))
     → items ≡ numbered_from number its → AllByRecursion IsMessageItem its → rest ≡ drop from items
     → AddsPacked name (take from items) p1 p2
-    → Spells bytes (packet_of name (number + from) n rest) []
+    → Spells bytes (packet_of_items name (number + from) n rest) []
     → ((more : List Item) → rest ≡ numbered_from (number + from) more
     → AllByRecursion IsMessageItem more
-    → items_carried (packet_of name (number + from) n rest) ≡ take n rest)
+    → items_carried (packet_of_items name (number + from) n rest) ≡ take n rest)
     → bytes_of_each p3 ≡ bytes_of_each p2 ++ bytes ∷ []
     → AddsPacked name (take (from + n) items) p1 p3
 packet_more name number from n items rest its bytes p1 p2 p3 is each after before spelled carried

@@ -17,7 +17,7 @@ use Rattle.line_arbiter.specs.Packets.{Input, Arrived, Skip, brings, carried, en
 use Rattle.line_arbiter.specs.Skips.{MaySkip}
 use Rattle.line_arbiter.specs.Streams.{front_of, end_at}
 use Rattle.line_arbiter.specs.laws.Fronts.{front_greatest}
-use Rattle.venue_normaliser.specs.Brought.{before_skip_past, has_skip_past, message_at}
+use Rattle.venue_normaliser.specs.Brought.{before_skip_past, has_skip_past, taken_bytes}
 use Rattle.venue_normaliser.specs.Outputs.{AreMadeAfter, AreShown, IsPutOutFrom, Opening, end_put_out_from, events_of, from_start, opened_at, put_first, row_items}
 use Rattle.item_packets.specs.Carried.{IsMessageItem, RunsFrom}
 use Rattle.item_packets.specs.Openings.{BeginsAt, IsOpening, first_put}
@@ -195,7 +195,7 @@ opened_runs keys opening packets output opens begins p =
     let len : length p.items
     ≡ front_of (before_skip_past opening.number packets) + 1 - opening.number =
     p.made.count ∙ length-map-range_with_len
-    (message_at (before_skip_past opening.number packets)) opening.number
+    (taken_bytes (before_skip_past opening.number packets)) opening.number
     (front_of (before_skip_past opening.number packets) + 1 - opening.number) in
     let both = length-append opening.shown p.items in
     record {

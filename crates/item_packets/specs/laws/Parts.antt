@@ -7,7 +7,7 @@ use Rattle.feed_types.specs.declared.item.Numbered.{Numbered}
 use Rattle.feed_types.specs.Sessions.{numbered_from, end_item}
 use Rattle.quote_payload.specs.Payload.{item_of}
 use Rattle.item_packets.specs.Carried.{IsMessageItem, RunsFrom, items_carried, numbered_item}
-use Rattle.item_packets.specs.Filled.{message_of, packet_of}
+use Rattle.item_packets.specs.Filled.{message_of, packet_of_items}
 
 -- ---- lists
 
@@ -83,7 +83,7 @@ all_dropped P (suc n) (x ∷ xs) each = all_dropped P n xs each.1
 pub carries_front : (session : List ℕ) (number n : ℕ) (items : List Numbered) (its : List Item)
     → items ≡ numbered_from number its
     → map item_of (map message_of (take n items)) ≡ map numbered_item (take n items)
-    → items_carried (packet_of session number n items) ≡ take n items
+    → items_carried (packet_of_items session number n items) ≡ take n items
 carries_front session number n items its is reads =
     append-nil (numbered_from number (map item_of (map message_of (take n items))))
     ∙ ap (numbered_from number) reads

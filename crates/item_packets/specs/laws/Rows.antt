@@ -13,7 +13,7 @@ use Rattle.itch_book.specs.declared.row.SymbolRow.{SymbolRow}
 use Rattle.itch_book.specs.Rows.{Tells}
 use Rattle.line_arbiter.specs.Packets.{Input, Arrived, Skip, end_of}
 use Rattle.line_arbiter.specs.Streams.{front_of, end_at}
-use Rattle.venue_normaliser.specs.Brought.{before_skip, has_skip, message_at}
+use Rattle.venue_normaliser.specs.Brought.{before_skip, has_skip, taken_bytes}
 use Rattle.venue_normaliser.specs.Outputs.{AreMade, IsPutOut, MakesItem, end_put_out, events_of}
 use Rattle.item_packets.specs.Carried.{IsMessageItem, RunsFrom}
 
@@ -251,7 +251,7 @@ put_out_runs keys packets output d p = record {
   each = made_items keys _ p.items d p.made;
   is = p.is;
   end = ended packets p.items
-      (p.made.count ∙ length-map-range_with_len (message_at (before_skip packets)) 1
+      (p.made.count ∙ length-map-range_with_len (taken_bytes (before_skip packets)) 1
       (front_of (before_skip packets) + 1 - 1)
       ∙ (let n : front_of (before_skip packets) + 1 - 1 ≡ front_of (before_skip packets) =
       omega arith in n));

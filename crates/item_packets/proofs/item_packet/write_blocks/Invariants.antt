@@ -1,10 +1,10 @@
 use Rattle.std.proofs.Common.{◌≡◌, ◌++◌, ◌≤◌, length, drop}
-use Rattle.item_packets.specs.Filled.{AreBlocks, blocks_of}
+use Rattle.item_packets.specs.Filled.{AreItemBlocks, blocks_of}
 use Rattle.item_packets.proofs.item_packet.write_blocks.Given as goal
 
 abbrev pub invariant-loop-numbered : goal.invariant-loop-numbered
 invariant-loop-numbered l = record {
-  blocks : AreBlocks l.items l.numbered-index l.len;
+  blocks : AreItemBlocks l.items l.numbered-index l.len;
   count : l.count ≡ l.numbered-index;
   room : l.len ≤ length l.fn.out;
   size : length l.out ≡ length l.fn.out;

@@ -1,6 +1,6 @@
 use Rattle.std.proofs.Common.{◌∙◌, List, Some, ap, rules, ℕ}
 use Rattle.udp_lines.proofs.Seeing.{end_count, end_of_one}
-use Rattle.udp_lines.proofs.line_ends.ended_session.Goals.{then-bytes-lt-HEADER-via-then-bytes-lt-HEADER, then-bytes-lt-HEADER-via-else-bytes-lt-HEADER+then-count_of-ne-END}
+use Rattle.udp_lines.proofs.line_ends.ended_session.Goals.{then-bytes-lt-HEADER_LEN-via-then-bytes-lt-HEADER_LEN, then-bytes-lt-HEADER_LEN-via-else-bytes-lt-HEADER_LEN+then-count_of-ne-END_COUNT}
 use Rattle.udp_lines.proofs.line_ends.ended_session.Goals as goal
 
 pub returns-then-eq-clause-only : goal.returns-then-eq-clause-only
@@ -24,15 +24,15 @@ returns-else-eq-clause-only c =
     let is = one.0 in
     search (rules, is)
 
-pub returns-then-bytes-lt-HEADER-clause-only : goal.returns-then-bytes-lt-HEADER-clause-only
-returns-then-bytes-lt-HEADER-clause-only c =
+pub returns-then-bytes-lt-HEADER_LEN-clause-only : goal.returns-then-bytes-lt-HEADER_LEN-clause-only
+returns-then-bytes-lt-HEADER_LEN-clause-only c =
     λ session e.
     let is = end_count session c.args.bytes.now e in
     let long = is.0 in
     let count = is.1 in
-    elim c.then-bytes-lt-HEADER.branch [
-      | then-bytes-lt-HEADER-via-then-bytes-lt-HEADER w ↦
-          absurd (search (rules, w.if-bytes-lt-HEADER, long))
-      | then-bytes-lt-HEADER-via-else-bytes-lt-HEADER+then-count_of-ne-END w ↦
-          absurd (search (rules, w.if-count_of-ne-END, w.count_of.ensures, count))
+    elim c.then-bytes-lt-HEADER_LEN.branch [
+      | then-bytes-lt-HEADER_LEN-via-then-bytes-lt-HEADER_LEN w ↦
+          absurd (search (rules, w.if-bytes-lt-HEADER_LEN, long))
+      | then-bytes-lt-HEADER_LEN-via-else-bytes-lt-HEADER_LEN+then-count_of-ne-END_COUNT w ↦
+          absurd (search (rules, w.if-count_of-ne-END_COUNT, w.count_of.ensures, count))
     ]
