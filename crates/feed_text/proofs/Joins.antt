@@ -16,7 +16,8 @@ use Rattle.line_arbiter.specs.laws.Fronts.{not_none}
 use Rattle.feed_text.specs.Joining.{IsNotPast}
 use Rattle.feed_text.specs.Rules.{IsFresh, IsJoinedAt}
 use Rattle.feed_text.proofs.OnePutIn.{of_session}
-use Rattle.feed_text.proofs.RuleSteps.{has_messages, none_held}
+use Rattle.feed_text.proofs.RuleSteps.{has_messages}
+use Rattle.line_arbiter.specs.laws.Held.{none_held}
 
 -- at most one item is at an end
 end_len : (end : Option ℕ) (n : ℕ) → length (end_at end n) ≤ 1
