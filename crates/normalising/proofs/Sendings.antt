@@ -37,7 +37,7 @@ use Rattle.normalising.specs.declared.normalised_feed.NormalisedFeed.{Normalised
 use Rattle.item_packets.specs.laws.Parts.{all_append}
 use Rattle.normalising.proofs.Heartbeats.{now_within, still_within}
 use Rattle.normalising.proofs.Venue.{after_begun, after_given, same_names}
-use Rattle.normalising.proofs.Venues.{get_set_other, get_set_same, same_or_not}
+use Rattle.feed_types.specs.ListLaws.{get_set_other, get_set_same, same_or_not}
 
 -- ---- packets of a session
 
